@@ -1,0 +1,5 @@
+// Cases with known answers, tried on the code. Nothing here is for use by other crates.
+#[cfg(test)]
+mod formulas;
+#[cfg(test)]
+mod ladders;

@@ -1,0 +1,5 @@
+pub mod Paired
+pub mod Tried
+pub mod Figures
+pub mod Held
+pub mod Exact
