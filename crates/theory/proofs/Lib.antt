@@ -1,3 +1,14 @@
 pub mod Sums
 pub mod Law
+pub mod Cuts
+pub mod Walls
+pub mod Tangent
+pub mod Runs
+pub mod Slow
+pub mod Rounds
+pub mod Drawn
+pub mod Course
+pub mod Least
+pub mod Shares
+pub mod Serving
 pub mod Rows
