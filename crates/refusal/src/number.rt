@@ -30,6 +30,13 @@ impl Refusal {
             Refusal::Bend { .. } => 5,
             Refusal::Stride => 6,
             Refusal::Coefficient { .. } => 7,
+            Refusal::Full => 9,
+            Refusal::Times => 10,
+            Refusal::Work => 11,
+            Refusal::Account => 12,
+            Refusal::Order => 13,
+            Refusal::Want { .. } => 16,
+            Refusal::Room { .. } => 18,
         }
     }
 
@@ -43,8 +50,9 @@ impl Refusal {
             Refusal::Gap { step } => step,
             Refusal::Bend { step } => step,
             Refusal::Coefficient { term } => term.exponent(),
-            Refusal::Count => 0,
-            Refusal::Stride => 0,
+            Refusal::Want { job } => job,
+            Refusal::Room { segments } => segments,
+            _ => 0,
         }
     }
 }

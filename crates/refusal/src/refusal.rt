@@ -20,4 +20,18 @@ pub enum Refusal {
     Stride,
     // a coefficient of a formula is above its limit
     Coefficient { term: Term },
+    // 256 jobs stand
+    Full,
+    // a job's arrival is not below its deadline, or its deadline is above 200,000
+    Times,
+    // a job's work is 0 or above 1,000,000
+    Work,
+    // an account is not from 1 to 64
+    Account,
+    // a job's arrival or deadline is below that of the last job
+    Order,
+    // speed is wanting for the jobs up to this one, counted from 1
+    Want { job: usize },
+    // the buffer is shorter than the plan
+    Room { segments: usize },
 }

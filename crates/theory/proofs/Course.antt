@@ -41,8 +41,8 @@ pub record Leg (steps : List Step) (jobs : List Job) (c : List Point) (s t : ℕ
   pub grows : done-by steps c t ≡ done-by steps c s + (ticks-between s t * speed-at steps (slow-at steps c s) + fast-at steps c s t * gap steps (slow-at steps c s))
   -- at t the slow step stays, or rises with the work on the ceiling, or falls with the work on the floor
   pub turn : (slow-at steps c s ≡ slow-at steps c t)
-    ⊎ (((slow-at steps c s ≤ slow-at steps c t) × (done-by steps c t ≡ unit * ceiling jobs t))
-    ⊎ ((slow-at steps c t ≤ slow-at steps c s) × (done-by steps c t ≡ unit * floor jobs t)))
+      ⊎ (((slow-at steps c s ≤ slow-at steps c t) × (done-by steps c t ≡ unit * ceiling jobs t))
+      ⊎ ((slow-at steps c t ≤ slow-at steps c s) × (done-by steps c t ≡ unit * floor jobs t)))
 
 -- legs from s along the times, up to the end
 abbrev pub Course : List Step → List Job → List Point → ℕ → List ℕ → Type 0
@@ -57,7 +57,6 @@ nothing-done r g =
     omega arith
 
 module _ (steps : List Step) (jobs : List Job) (c : List Point) (d : Drawable steps jobs c) where
-
   pub slow-at-known : (t : ℕ) → suc (slow-at steps c t) < length steps
   unfolding slow-at
   slow-at-known t = slow-known steps (d .lawful) (piece-at c t)
@@ -69,46 +68,56 @@ module _ (steps : List Step) (jobs : List Job) (c : List Point) (d : Drawable st
       let o = on-piece steps jobs c d b t in
       let k = slow-known steps (d .lawful) (piece-at c t) in
       let e : t ≤ piece-at c t .to .time = elim (cases-lt t (span jobs)) [
-            inl m ↦ let g = o .going m in omega arith
-          | inr m ↦ let g = o .ended (omega arith) .0 in omega arith ] in
-      (done-over steps (d .lawful) jobs (piece-at c t) (o .straight) (slow-step steps (piece-at c t)) k t (o .begun) e,
-       done-under steps (d .lawful) jobs (piece-at c t) (o .straight) (slow-step steps (piece-at c t)) k t (o .begun) e)
+        | inl m ↦ let g = o .going m in omega arith
+        | inr m ↦ let g = o .ended (omega arith) .0 in omega arith
+      ] in (
+        done-over steps (d .lawful) jobs (piece-at c t) (o .straight) (slow-step steps (piece-at c t)) k t (o .begun) e,
+        done-under steps (d .lawful) jobs (piece-at c t) (o .straight) (slow-step steps (piece-at c t)) k t (o .begun) e,
+      )
 
   -- where two pieces meet
   leg-turn : (s t : ℕ) (l m : Piece) (ol : On steps jobs s l) (om : On steps jobs t m) → Next jobs t l m
-    → (done-at l (gap steps (slow-step steps l)) t ≡ done-at m (gap steps (slow-step steps m)) t)
+      → (done-at l (gap steps (slow-step steps l)) t ≡ done-at m (gap steps (slow-step steps m)) t)
       × ((slow-step steps l ≡ slow-step steps m)
-        ⊎ (((slow-step steps l ≤ slow-step steps m) × (done-at m (gap steps (slow-step steps m)) t ≡ unit * ceiling jobs t))
-        ⊎ ((slow-step steps m ≤ slow-step steps l) × (done-at m (gap steps (slow-step steps m)) t ≡ unit * floor jobs t))))
+      ⊎ (((slow-step steps l ≤ slow-step steps m) × (done-at m (gap steps (slow-step steps m)) t ≡ unit * ceiling jobs t))
+      ⊎ ((slow-step steps m ≤ slow-step steps l) × (done-at m (gap steps (slow-step steps m)) t ≡ unit * floor jobs t))))
   unfolding run
   leg-turn s t l m ol om (inl e) =
       (ap (λ (x : Piece). done-at x (gap steps (slow-step steps x)) t) (sym e), inl (ap (slow-step steps) (sym e)))
   leg-turn s t l m ol om (inr (ef, et, u)) =
       let dl : done-at l (gap steps (slow-step steps l)) t ≡ unit * l .to .height
-            = subst (λ (x : ℕ). done-at l (gap steps (slow-step steps l)) x ≡ unit * l .to .height) et
-                (done-last steps (d .lawful) jobs l (ol .straight) (slow-step steps l) (slow-known steps (d .lawful) l)) in
+      = subst (λ (x : ℕ). done-at l (gap steps (slow-step steps l)) x ≡ unit * l .to .height) et
+      (done-last steps (d .lawful) jobs l (ol .straight) (slow-step steps l) (slow-known steps (d .lawful) l)) in
       let dm : done-at m (gap steps (slow-step steps m)) t ≡ unit * m .from .height
-            = subst (λ (x : ℕ). done-at m (gap steps (slow-step steps m)) x ≡ unit * m .from .height) (ap (λ (x : Point). x .time) ef ∙ et)
-                (done-first steps (d .lawful) jobs m (om .straight) (slow-step steps m) (slow-known steps (d .lawful) m)) in
+      = subst (λ (x : ℕ). done-at m (gap steps (slow-step steps m)) x ≡ unit * m .from .height) (ap (λ (x : Point). x .time) ef ∙ et)
+      (done-first steps (d .lawful) jobs m (om .straight) (slow-step steps m) (slow-known steps (d .lawful) m)) in
       let eh = ap (λ (x : Point). x .height) ef in
       let er = ap (λ (x : Point). rise x (m .to) * run (l .from) (l .to)) ef in
       let en = ap (λ (x : Point). rise (l .from) (l .to) * run x (m .to)) ef in
       let pl : 0 < run (l .from) (l .to) = let o = ol .straight .onward in omega arith in
-      let pm : 0 < run (m .from) (m .to) = let o = om .straight .onward in omega arith in
-      (omega arith,
-       elim (cases-order (rise (l .from) (l .to) * run (m .from) (m .to)) (rise (m .from) (m .to) * run (l .from) (l .to))) [
-         inl e ↦ inl (
-           let a = slow-grows steps l m pl (omega arith) in
-           let b = slow-grows steps m l pm (omega arith) in
-           omega arith)
-       | inr (inl k) ↦ inr (inl (slow-grows steps l m pl (omega arith), (
-           let h = u .rising (omega arith) .1 in
-           let g = ap (ceiling jobs) et in
-           omega arith)))
-       | inr (inr k) ↦ inr (inr (slow-grows steps m l pm (omega arith), (
-           let h = u .falling (omega arith) .1 in
-           let g = ap (floor jobs) et in
-           omega arith))) ])
+      let pm : 0 < run (m .from) (m .to) = let o = om .straight .onward in omega arith in (
+        omega arith,
+        elim (cases-order (rise (l .from) (l .to) * run (m .from) (m .to)) (rise (m .from) (m .to) * run (l .from) (l .to))) [
+          | inl e ↦ inl (
+              let a = slow-grows steps l m pl (omega arith) in
+              let b = slow-grows steps m l pm (omega arith) in
+              omega arith)
+          | inr (inl k) ↦ inr (inl (
+            slow-grows steps l m pl (omega arith),
+            (
+                let h = u .rising (omega arith) .1 in
+                let g = ap (ceiling jobs) et in
+                omega arith),
+          ))
+          | inr (inr k) ↦ inr (inr (
+            slow-grows steps m l pm (omega arith),
+            (
+                let h = u .falling (omega arith) .1 in
+                let g = ap (floor jobs) et in
+                omega arith),
+          ))
+        ],
+      )
 
   -- one leg: t is the next cut after s, so the piece at s goes on at least to t
   leg : (s t : ℕ) → s < t → t ≤ span jobs → t ≤ piece-at c s .to .time → Leg steps jobs c s t
@@ -124,14 +133,16 @@ module _ (steps : List Step) (jobs : List Job) (c : List Point) (d : Drawable st
         inside = k;
         fits = g .0;
         grows = sym (u .0) ∙ g .1;
-        turn = u .1 }
+        turn = u .1;
+      }
 
   course-from : (s : ℕ) (ts : List ℕ) → Rises s ts → s ≤ span jobs → ((x : ℕ) → Among x (cuts jobs) → s < x → Among x ts) → ((x : ℕ) → Among x ts → x ≤ span jobs)
-    → Course steps jobs c s ts
+      → Course steps jobs c s ts
   course-from s [] r l all low =
       elim (cases-lt s (span jobs)) [
-        inl k ↦ absurd (all (span jobs) (span-cut jobs) k)
-      | inr k ↦ omega arith ]
+        | inl k ↦ absurd (all (span jobs) (span-cut jobs) k)
+        | inr k ↦ omega arith
+      ]
   course-from s (t ∷ ts) r l all low =
       let k = low t (inl refl) in
       let a = r .0 in
@@ -143,6 +154,7 @@ module _ (steps : List Step) (jobs : List Job) (c : List Point) (d : Drawable st
       no-sooner : {x : ℕ} → Among x (t ∷ ts) → t ≤ x
       no-sooner (inl e) = omega arith
       no-sooner {x} (inr m) = let a = rises-above t ts (r .1) x m in omega arith
+
       later : (x : ℕ) → Among x (t ∷ ts) → t < x → Among x ts
       later x (inl e) n = absurd (omega arith)
       later x (inr m) n = m
@@ -152,10 +164,14 @@ module _ (steps : List Step) (jobs : List Job) (c : List Point) (d : Drawable st
   course = along (cuts-rooted jobs)
     where
       along : (rest : List ℕ) × (cuts jobs ≡ 0 ∷ rest) × Rises 0 rest → (rest : List ℕ) × (cuts jobs ≡ 0 ∷ rest) × Rises 0 rest × Course steps jobs c 0 rest
-      along (rest, e, r) =
-          (rest, e, r, course-from 0 rest r (omega arith)
+      along (rest, e, r) = (
+        rest,
+        e,
+        r,
+        course-from 0 rest r (omega arith)
             (λ x m l. past x l (subst (Among x) e m))
-            (λ x m. cut-in-span jobs (d .ordered) x (subst (Among x) (sym e) (inr m))))
+            (λ x m. cut-in-span jobs (d .ordered) x (subst (Among x) (sym e) (inr m))),
+      )
         where
           past : (x : ℕ) → 0 < x → Among x (0 ∷ rest) → Among x rest
           past x l (inl f) = absurd (omega arith)

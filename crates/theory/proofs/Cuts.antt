@@ -45,9 +45,10 @@ unfolding insert
 insert-rises b t [] l r = (l, tt)
 insert-rises b t (s ∷ ss) l r =
     elim (cases-order t s) [
-      inl e ↦ subst (Rises b) (sym (insert-same t s ss e)) r
-    | inr (inl k) ↦ subst (Rises b) (sym (insert-before t s ss k)) (l, (k, r .1))
-    | inr (inr k) ↦ subst (Rises b) (sym (insert-after t s ss k)) (r .0, insert-rises s t ss k (r .1)) ]
+      | inl e ↦ subst (Rises b) (sym (insert-same t s ss e)) r
+      | inr (inl k) ↦ subst (Rises b) (sym (insert-before t s ss k)) (l, (k, r .1))
+      | inr (inr k) ↦ subst (Rises b) (sym (insert-after t s ss k)) (r .0, insert-rises s t ss k (r .1))
+    ]
 
 -- what is inserted is there, and so is what was there
 insert-there : (t : ℕ) (ss : List ℕ) → Among t (insert t ss)
@@ -55,18 +56,20 @@ unfolding insert
 insert-there t [] = inl refl
 insert-there t (s ∷ ss) =
     elim (cases-order t s) [
-      inl e ↦ subst (Among t) (sym (insert-same t s ss e)) (inl e)
-    | inr (inl k) ↦ subst (Among t) (sym (insert-before t s ss k)) (inl refl)
-    | inr (inr k) ↦ subst (Among t) (sym (insert-after t s ss k)) (inr (insert-there t ss)) ]
+      | inl e ↦ subst (Among t) (sym (insert-same t s ss e)) (inl e)
+      | inr (inl k) ↦ subst (Among t) (sym (insert-before t s ss k)) (inl refl)
+      | inr (inr k) ↦ subst (Among t) (sym (insert-after t s ss k)) (inr (insert-there t ss))
+    ]
 
 insert-keeps : (t : ℕ) (ss : List ℕ) (x : ℕ) → Among x ss → Among x (insert t ss)
 unfolding insert
 insert-keeps t [] x m = absurd m
 insert-keeps t (s ∷ ss) x m =
     elim (cases-order t s) [
-      inl e ↦ subst (Among x) (sym (insert-same t s ss e)) m
-    | inr (inl k) ↦ subst (Among x) (sym (insert-before t s ss k)) (inr m)
-    | inr (inr k) ↦ subst (Among x) (sym (insert-after t s ss k)) (further (insert-keeps t ss x) m) ]
+      | inl e ↦ subst (Among x) (sym (insert-same t s ss e)) m
+      | inr (inl k) ↦ subst (Among x) (sym (insert-before t s ss k)) (inr m)
+      | inr (inr k) ↦ subst (Among x) (sym (insert-after t s ss k)) (further (insert-keeps t ss x) m)
+    ]
   where
     further : (Among x ss → Among x (insert t ss)) → Among x (s ∷ ss) → Among x (s ∷ insert t ss)
     further more (inl e) = inl e
@@ -79,9 +82,10 @@ insert-only t [] x (inl e) = inl e
 insert-only t [] x (inr m) = absurd m
 insert-only t (s ∷ ss) x m =
     elim (cases-order t s) [
-      inl e ↦ inr (subst (Among x) (insert-same t s ss e) m)
-    | inr (inl k) ↦ subst (Among x) (insert-before t s ss k) m
-    | inr (inr k) ↦ further (insert-only t ss x) (subst (Among x) (insert-after t s ss k) m) ]
+      | inl e ↦ inr (subst (Among x) (insert-same t s ss e) m)
+      | inr (inl k) ↦ subst (Among x) (insert-before t s ss k) m
+      | inr (inr k) ↦ further (insert-only t ss x) (subst (Among x) (insert-after t s ss k) m)
+    ]
   where
     further : (Among x (insert t ss) → (x ≡ t) ⊎ Among x ss) → Among x (s ∷ insert t ss) → (x ≡ t) ⊎ Among x (s ∷ ss)
     further more (inl e) = inr (inl e)
@@ -94,7 +98,8 @@ ordered-tail j js o = record {
   timely = λ i l. o .timely (suc i) (omega arith);
   worked = λ i l. o .worked (suc i) (omega arith);
   arrivals = λ i l. o .arrivals (suc i) (omega arith);
-  deadlines = λ i l. o .deadlines (suc i) (omega arith) }
+  deadlines = λ i l. o .deadlines (suc i) (omega arith);
+}
 
 -- a list that begins with 0 and rises from there
 Rooted : List ℕ → Type 0
@@ -104,8 +109,9 @@ insert-rooted : (t : ℕ) (ts : List ℕ) → Rooted ts → Rooted (insert t ts)
 unfolding Rooted
 insert-rooted t ts (rest, e, r) =
     elim (cases-lt 0 t) [
-      inl l ↦ (insert t rest, ap (insert t) e ∙ insert-after t 0 rest l, insert-rises 0 t rest l r)
-    | inr l ↦ (rest, ap (insert t) e ∙ insert-same t 0 rest (omega arith), r) ]
+      | inl l ↦ (insert t rest, ap (insert t) e ∙ insert-after t 0 rest l, insert-rises 0 t rest l r)
+      | inr l ↦ (rest, ap (insert t) e ∙ insert-same t 0 rest (omega arith), r)
+    ]
 
 -- the cuts begin with 0 and rise
 pub cuts-rooted : (jobs : List Job) → (rest : List ℕ) × (cuts jobs ≡ 0 ∷ rest) × Rises 0 rest
@@ -136,12 +142,13 @@ unfolding cuts span
 span-cut [] = inl refl
 span-cut (j ∷ js) =
     elim (cases-lt (span js) (j .deadline)) [
-      inl l ↦
-        let e : max (j .deadline) (span js) ≡ j .deadline = omega arith in
-        rw e (insert-keeps (j .arrival) (insert (j .deadline) (cuts js)) (j .deadline) (insert-there (j .deadline) (cuts js)))
-    | inr l ↦
-        let e : max (j .deadline) (span js) ≡ span js = omega arith in
-        rw e (insert-keeps (j .arrival) (insert (j .deadline) (cuts js)) (span js) (insert-keeps (j .deadline) (cuts js) (span js) (span-cut js))) ]
+      | inl l ↦
+          let e : max (j .deadline) (span js) ≡ j .deadline = omega arith in
+          rw e (insert-keeps (j .arrival) (insert (j .deadline) (cuts js)) (j .deadline) (insert-there (j .deadline) (cuts js)))
+      | inr l ↦
+          let e : max (j .deadline) (span js) ≡ span js = omega arith in
+          rw e (insert-keeps (j .arrival) (insert (j .deadline) (cuts js)) (span js) (insert-keeps (j .deadline) (cuts js) (span js) (span-cut js)))
+    ]
 
 pub cut-in-span : (jobs : List Job) → Ordered jobs → (x : ℕ) → Among x (cuts jobs) → x ≤ span jobs
 unfolding cuts span job-at
@@ -150,7 +157,9 @@ cut-in-span [] o x (inr m) = absurd m
 cut-in-span (j ∷ js) o x m =
     let on : j .arrival < j .deadline = o .timely 0 (omega arith) in
     elim (insert-only (j .arrival) (insert (j .deadline) (cuts js)) x m) [
-      inl e ↦ omega arith
-    | inr n ↦ elim (insert-only (j .deadline) (cuts js) x n) [
-        inl e ↦ omega arith
-      | inr k ↦ let b = cut-in-span js (ordered-tail j js o) x k in omega arith ] ]
+      | inl e ↦ omega arith
+      | inr n ↦ elim (insert-only (j .deadline) (cuts js) x n) [
+        | inl e ↦ omega arith
+        | inr k ↦ let b = cut-in-span js (ordered-tail j js o) x k in omega arith
+      ]
+    ]

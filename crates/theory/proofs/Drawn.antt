@@ -74,7 +74,7 @@ unfolding piece-from
 piece-rest p q r rs t l = cond-false (ltb t (q .time)) _ _ (le-ltb t (q .time) l)
 
 on-from : (steps : List Step) (jobs : List Job) (p : Point) (c : List Point) → Kept jobs p c → AtCuts (cuts jobs) c → Gentle steps p c
-  → p .time < span jobs → (t : ℕ) → p .time ≤ t → On steps jobs t (piece-from p c t)
+    → p .time < span jobs → (t : ℕ) → p .time ≤ t → On steps jobs t (piece-from p c t)
 unfolding piece-from
 on-from steps jobs p [] k a g b t l = let e = k .0 in absurd (omega arith)
 on-from steps jobs p (q ∷ []) k a g b t l = record {
@@ -83,50 +83,54 @@ on-from steps jobs p (q ∷ []) k a g b t l = record {
   end-cut = a .0;
   begun = l;
   going = λ m. let e = k .1 in omega arith;
-  ended = λ e. (k .1, k .2) }
+  ended = λ e. (k .1, k .2);
+}
 on-from steps jobs p (q ∷ (r ∷ rs)) k a g b t l =
     elim (cases-lt t (q .time)) [
-      inl m ↦ subst (On steps jobs t) (sym (piece-first p q (r ∷ rs) t m)) (record {
+      | inl m ↦ subst (On steps jobs t) (sym (piece-first p q (r ∷ rs) t m)) (record {
         straight = k .0;
         slope = g .0;
         end-cut = a .0;
         begun = l;
         going = λ n. m;
-        ended = λ e. let n = kept-before-end jobs q r rs (k .2) in absurd (omega arith) })
-    | inr m ↦
-        let n = kept-before-end jobs q r rs (k .2) in
-        subst (On steps jobs t) (sym (piece-rest p q r rs t m)) (on-from steps jobs q (r ∷ rs) (k .2) (a .1) (g .1) (omega arith) t m) ]
+        ended = λ e. let n = kept-before-end jobs q r rs (k .2) in absurd (omega arith);
+      })
+      | inr m ↦
+          let n = kept-before-end jobs q r rs (k .2) in
+          subst (On steps jobs t) (sym (piece-rest p q r rs t m)) (on-from steps jobs q (r ∷ rs) (k .2) (a .1) (g .1) (omega arith) t m)
+    ]
 
 -- what a later time's piece m is to l: the same, or its neighbour after a turn at time t
 abbrev pub Next : List Job → ℕ → Piece → Piece → Type 0
 Next jobs t l m = (m ≡ l) ⊎ ((m .from ≡ l .to) × (l .to .time ≡ t) × Turns jobs (l .from) (l .to) (m .to))
 
 next-from : (jobs : List Job) (p : Point) (c : List Point) → Kept jobs p c → (s t : ℕ) → p .time ≤ s → s ≤ t → t ≤ piece-from p c s .to .time
-  → Next jobs t (piece-from p c s) (piece-from p c t)
+    → Next jobs t (piece-from p c s) (piece-from p c t)
 unfolding piece-from
 next-from jobs p [] k s t a b l = inl refl
 next-from jobs p (q ∷ []) k s t a b l = inl refl
 next-from jobs p (q ∷ (r ∷ rs)) k s t a b l =
     elim (cases-lt s (q .time)) [
-      inl m ↦
-        let e = piece-first p q (r ∷ rs) s m in
-        let l2 : t ≤ q .time = subst (λ (x : Piece). t ≤ x .to .time) e l in
-        elim (cases-lt t (q .time)) [
-          inl n ↦ inl (piece-first p q (r ∷ rs) t n ∙ sym e)
-        | inr n ↦
-            let o = kept-before-end jobs q r rs (k .2) in
-            let f : piece-from p (q ∷ (r ∷ rs)) t ≡ record { from = q; to = r } = piece-rest p q r rs t n ∙ piece-first q r rs t (omega arith) in
-            inr (subst (λ (x : Piece). (x .from ≡ piece-from p (q ∷ (r ∷ rs)) s .to) × (piece-from p (q ∷ (r ∷ rs)) s .to .time ≡ t) × Turns jobs (piece-from p (q ∷ (r ∷ rs)) s .from) (piece-from p (q ∷ (r ∷ rs)) s .to) (x .to)) (sym f)
-                  (subst (λ (x : Piece). (q ≡ x .to) × (x .to .time ≡ t) × Turns jobs (x .from) (x .to) r) (sym e) (refl, omega arith, k .1))) ]
-    | inr m ↦
-        let e = piece-rest p q r rs s m in
-        let f = piece-rest p q r rs t (omega arith) in
-        subst (λ (x : Piece). Next jobs t x (piece-from p (q ∷ (r ∷ rs)) t)) (sym e)
+      | inl m ↦
+          let e = piece-first p q (r ∷ rs) s m in
+          let l2 : t ≤ q .time = subst (λ (x : Piece). t ≤ x .to .time) e l in
+          elim (cases-lt t (q .time)) [
+            | inl n ↦ inl (piece-first p q (r ∷ rs) t n ∙ sym e)
+            | inr n ↦
+                let o = kept-before-end jobs q r rs (k .2) in
+                let f : piece-from p (q ∷ (r ∷ rs)) t ≡ record { from = q; to = r } = piece-rest p q r rs t n ∙ piece-first q r rs t (omega arith) in
+                inr (subst (λ (x : Piece). (x .from ≡ piece-from p (q ∷ (r ∷ rs)) s .to) × (piece-from p (q ∷ (r ∷ rs)) s .to .time ≡ t) × Turns jobs (piece-from p (q ∷ (r ∷ rs)) s .from) (piece-from p (q ∷ (r ∷ rs)) s .to) (x .to)) (sym f)
+                (subst (λ (x : Piece). (q ≡ x .to) × (x .to .time ≡ t) × Turns jobs (x .from) (x .to) r) (sym e) (refl, omega arith, k .1)))
+          ]
+      | inr m ↦
+          let e = piece-rest p q r rs s m in
+          let f = piece-rest p q r rs t (omega arith) in
+          subst (λ (x : Piece). Next jobs t x (piece-from p (q ∷ (r ∷ rs)) t)) (sym e)
           (subst (Next jobs t (piece-from q (r ∷ rs) s)) (sym f)
-            (next-from jobs q (r ∷ rs) (k .2) s t m b (subst (λ (x : Piece). t ≤ x .to .time) e l))) ]
+          (next-from jobs q (r ∷ rs) (k .2) s t m b (subst (λ (x : Piece). t ≤ x .to .time) e l)))
+    ]
 
 module _ (steps : List Step) (jobs : List Job) (c : List Point) (d : Drawable steps jobs c) where
-
   -- the piece at each time, where there is time at all
   pub on-piece : 0 < span jobs → (t : ℕ) → On steps jobs t (piece-at c t)
   unfolding piece-at

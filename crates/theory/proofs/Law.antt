@@ -12,7 +12,7 @@ use Rattle.model.specs.Jobs.{total, span, ceiling, floor, arrives, due}
 use Rattle.model.specs.Path.{start, run, rise, height-on, inside, straight, flatter, turns, keeps-from, keeps}
 use Rattle.model.specs.declared.job.Job.{Job}
 use Rattle.model.specs.declared.point.Point.{Point}
-use Rattle.theory.proofs.Sums.{all-at, all-from}
+use Rattle.model.proofs.Sums.{all-at, all-from}
 
 -- a straight piece: it goes on in time, does not fall, and keeps between the walls at each whole time
 pub record Straight (jobs : List Job) (p q : Point) : Type 0 where

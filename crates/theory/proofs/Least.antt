@@ -15,7 +15,7 @@ use Rattle.model.specs.Ways.{Way, parts, way-energy, Unbeaten}
 use Rattle.model.specs.declared.job.Job.{Job}
 use Rattle.model.specs.declared.point.Point.{Point}
 use Rattle.model.specs.declared.step.Step.{Step}
-use Rattle.theory.proofs.Sums.{sum-to-add, sum-to-mul, sum-to-const, sum-to-split, sum-to-mono}
+use Rattle.model.proofs.Sums.{sum-to-add, sum-to-mul, sum-to-const, sum-to-split, sum-to-mono}
 use Rattle.theory.proofs.Walls.{part-grains, way-done, way-under, way-over, way-total}
 use Rattle.theory.proofs.Tangent.{price, next-power, price-gap, price-grows, tangent-under}
 use Rattle.theory.proofs.Runs.{energy-joined}
@@ -28,12 +28,12 @@ crossed a b c d l k =
     let e : a + (b - a) ≡ b = omega arith in
     let f : c + (d - c) ≡ d = omega arith in
     subst (λ (x : ℕ). a * d + x * c ≤ a * c + x * d) e
-      (subst (λ (y : ℕ). a * y + (a + (b - a)) * c ≤ a * c + (a + (b - a)) * y) f (
-        let p = mul-add a c (d - c) in
-        let q = add-mul a (b - a) c in
-        let r = mul-add (a + (b - a)) c (d - c) in
-        let s = add-mul a (b - a) (d - c) in
-        omega arith))
+    (subst (λ (y : ℕ). a * y + (a + (b - a)) * c ≤ a * c + (a + (b - a)) * y) f (
+    let p = mul-add a c (d - c) in
+    let q = add-mul a (b - a) c in
+    let r = mul-add (a + (b - a)) c (d - c) in
+    let s = add-mul a (b - a) (d - c) in
+    omega arith))
 
 -- terms that are no larger from m to n
 sum-to-between : (m n : ℕ) (f g : ℕ → ℕ) → m ≤ n → ((i : ℕ) → m ≤ i → i < n → f i ≤ g i) → sum-to n f + sum-to m g ≤ sum-to n g + sum-to m f
@@ -56,7 +56,7 @@ sum-to-line n a b f =
 
 -- the plan on one leg, where the tangent is an equality: n ticks, f of them fast; powers p and p + e, speeds v and v + g, price l
 leg-exact : (u p e l v g n f a b : ℕ) → f ≤ n → l * g ≡ u * e → b ≡ a + (n * v + f * g)
-  → u * (p * (n - f) + (p + e) * f) + l * a + l * v * n ≡ u * p * n + l * b
+    → u * (p * (n - f) + (p + e) * f) + l * a + l * v * n ≡ u * p * n + l * b
 leg-exact u p e l v g n f a b k el eb =
     let e1 : n - f + f ≡ n = omega arith in
     let e2 = mul-add p (n - f) f in
@@ -77,11 +77,11 @@ leg-exact u p e l v g n f a b k el eb =
 
 -- one leg back: energies E of the plan and P of the way, work D of the plan and W of the way, parts x and x + n·k, prices l on the leg and m after it
 leg-back : (u k E1 Et Ds Dt Ps Pt Pe Ws Wt l m v p n x : ℕ)
-  → u * (k * Et) + m * (k * Dt) + u * Pt ≤ u * Pe + m * Wt
-  → u * E1 + l * Ds + l * v * n ≡ u * p * n + l * Dt
-  → u * p * (x + n * k) + l * Wt + (l * v * x + u * Ps) ≤ l * v * (x + n * k) + u * Pt + (u * p * x + l * Ws)
-  → l * (k * Dt) + m * Wt ≤ l * Wt + m * (k * Dt)
-  → u * (k * (E1 + Et)) + l * (k * Ds) + u * Ps ≤ u * Pe + l * Ws
+    → u * (k * Et) + m * (k * Dt) + u * Pt ≤ u * Pe + m * Wt
+    → u * E1 + l * Ds + l * v * n ≡ u * p * n + l * Dt
+    → u * p * (x + n * k) + l * Wt + (l * v * x + u * Ps) ≤ l * v * (x + n * k) + u * Pt + (u * p * x + l * Ws)
+    → l * (k * Dt) + m * Wt ≤ l * Wt + m * (k * Dt)
+    → u * (k * (E1 + Et)) + l * (k * Ds) + u * Ps ≤ u * Pe + l * Ws
 leg-back u k E1 Et Ds Dt Ps Pt Pe Ws Wt l m v p n x ih plan way cross =
     let a = ap (λ (y : ℕ). k * y) plan in
     let a1 = mul-add k (u * E1 + l * Ds) (l * v * n) in
@@ -100,9 +100,9 @@ leg-back u k E1 Et Ds Dt Ps Pt Pe Ws Wt l m v p n x ih plan way cross =
 
 -- the energy of the stretches, one leg taken off
 energy-leg : (steps : List Step) (c : List Point) (s t : ℕ) (ts : List ℕ)
-  → energy steps (stretches steps c (s ∷ (t ∷ ts)))
+    → energy steps (stretches steps c (s ∷ (t ∷ ts)))
     ≡ power-at steps (slow-at steps c s) * (ticks-between s t - fast-at steps c s t)
-      + (power-at steps (suc (slow-at steps c s)) * fast-at steps c s t + energy steps (stretches steps c (t ∷ ts)))
+    + (power-at steps (suc (slow-at steps c s)) * fast-at steps c s t + energy steps (stretches steps c (t ∷ ts)))
 unfolding energy sum-of stretches stretch segment slow-at fast-at
 energy-leg steps c s t ts = refl
 
@@ -118,8 +118,7 @@ parts-leg s t k l =
     ap (λ (x : ℕ). x * k) e ∙ add-mul (s * unit) (unit * (t - s)) k
 
 module _ (steps : List Step) (jobs : List Job) (c : List Point) (d : Drawable steps jobs c)
-         (k : ℕ) (pick : ℕ → ℕ) (give : ℕ → ℕ → ℕ) (w : Way steps jobs k pick give) where
-
+    (k : ℕ) (pick : ℕ → ℕ) (give : ℕ → ℕ → ℕ) (w : Way steps jobs k pick give) where
   -- the way's energy before time t
   spent : ℕ → ℕ
   spent t = sum-to (t * unit * k) (λ p. power-at steps (pick p))
@@ -130,19 +129,19 @@ module _ (steps : List Step) (jobs : List Job) (c : List Point) (d : Drawable st
 
   -- the plan on one leg
   plan-leg : (s t : ℕ) → Leg steps jobs c s t
-    → unit * (power-at steps (slow-at steps c s) * (ticks-between s t - fast-at steps c s t) + power-at steps (suc (slow-at steps c s)) * fast-at steps c s t)
-        + price-from s * done-by steps c s + price-from s * speed-at steps (slow-at steps c s) * ticks-between s t
+      → unit * (power-at steps (slow-at steps c s) * (ticks-between s t - fast-at steps c s t) + power-at steps (suc (slow-at steps c s)) * fast-at steps c s t)
+      + price-from s * done-by steps c s + price-from s * speed-at steps (slow-at steps c s) * ticks-between s t
       ≡ unit * power-at steps (slow-at steps c s) * ticks-between s t + price-from s * done-by steps c t
   unfolding price-from
   plan-leg s t leg =
       let h = slow-at-known steps jobs c d s in
       rw (next-power steps (d .lawful) (slow-at steps c s) h)
-        (leg-exact unit (power-at steps (slow-at steps c s)) (climb steps (slow-at steps c s)) (price steps (slow-at steps c s)) (speed-at steps (slow-at steps c s)) (gap steps (slow-at steps c s))
-          (ticks-between s t) (fast-at steps c s t) (done-by steps c s) (done-by steps c t) (leg .fits) (price-gap steps (d .lawful) (slow-at steps c s) h) (leg .grows))
+      (leg-exact unit (power-at steps (slow-at steps c s)) (climb steps (slow-at steps c s)) (price steps (slow-at steps c s)) (speed-at steps (slow-at steps c s)) (gap steps (slow-at steps c s))
+      (ticks-between s t) (fast-at steps c s t) (done-by steps c s) (done-by steps c t) (leg .fits) (price-gap steps (d .lawful) (slow-at steps c s) h) (leg .grows))
 
   -- the way on one leg: each of its parts is on or above the tangent
   way-leg : (s t : ℕ) → s ≤ t → t ≤ span jobs
-    → unit * power-at steps (slow-at steps c s) * (t * unit * k) + price-from s * way-done jobs k give t + (price-from s * speed-at steps (slow-at steps c s) * (s * unit * k) + unit * spent s)
+      → unit * power-at steps (slow-at steps c s) * (t * unit * k) + price-from s * way-done jobs k give t + (price-from s * speed-at steps (slow-at steps c s) * (s * unit * k) + unit * spent s)
       ≤ price-from s * speed-at steps (slow-at steps c s) * (t * unit * k) + unit * spent t + (unit * power-at steps (slow-at steps c s) * (s * unit * k) + price-from s * way-done jobs k give s)
   unfolding price-from spent parts
   way-leg s t l b =
@@ -152,10 +151,10 @@ module _ (steps : List Step) (jobs : List Job) (c : List Point) (d : Drawable st
       let low = λ (p : ℕ). unit * power-at steps (slow-at steps c s) + price steps (slow-at steps c s) * part-grains jobs give p in
       let high = λ (p : ℕ). price steps (slow-at steps c s) * speed-at steps (slow-at steps c s) + unit * power-at steps (pick p) in
       let m : sum-to (t * unit * k) low + sum-to (s * unit * k) high ≤ sum-to (t * unit * k) high + sum-to (s * unit * k) low
-            = sum-to-between (s * unit * k) (t * unit * k) low high st (λ p x y.
-                let z : p < span jobs * unit * k = omega arith in
-                let g = tangent-under steps (d .lawful) (slow-at steps c s) (pick p) (part-grains jobs give p) h (w .known p z) (w .able p z) in
-                omega arith) in
+      = sum-to-between (s * unit * k) (t * unit * k) low high st (λ p x y.
+      let z : p < span jobs * unit * k = omega arith in
+      let g = tangent-under steps (d .lawful) (slow-at steps c s) (pick p) (part-grains jobs give p) h (w .known p z) (w .able p z) in
+      omega arith) in
       let e1 = sum-to-line (t * unit * k) (unit * power-at steps (slow-at steps c s)) (price steps (slow-at steps c s)) (part-grains jobs give) in
       let e2 = sum-to-line (s * unit * k) (unit * power-at steps (slow-at steps c s)) (price steps (slow-at steps c s)) (part-grains jobs give) in
       let e3 = sum-to-line (t * unit * k) (price steps (slow-at steps c s) * speed-at steps (slow-at steps c s)) unit (λ p. power-at steps (pick p)) in
@@ -164,41 +163,41 @@ module _ (steps : List Step) (jobs : List Job) (c : List Point) (d : Drawable st
 
   -- where the price changes the walls are on the right side
   price-turn : (s t : ℕ) → Leg steps jobs c s t
-    → price-from s * (k * done-by steps c t) + price-from t * way-done jobs k give t ≤ price-from s * way-done jobs k give t + price-from t * (k * done-by steps c t)
+      → price-from s * (k * done-by steps c t) + price-from t * way-done jobs k give t ≤ price-from s * way-done jobs k give t + price-from t * (k * done-by steps c t)
   unfolding price-from
   price-turn s t leg = by (leg .turn)
     where
       by : (slow-at steps c s ≡ slow-at steps c t)
           ⊎ (((slow-at steps c s ≤ slow-at steps c t) × (done-by steps c t ≡ unit * ceiling jobs t))
           ⊎ ((slow-at steps c t ≤ slow-at steps c s) × (done-by steps c t ≡ unit * floor jobs t)))
-        → price steps (slow-at steps c s) * (k * done-by steps c t) + price steps (slow-at steps c t) * way-done jobs k give t
+          → price steps (slow-at steps c s) * (k * done-by steps c t) + price steps (slow-at steps c t) * way-done jobs k give t
           ≤ price steps (slow-at steps c s) * way-done jobs k give t + price steps (slow-at steps c t) * (k * done-by steps c t)
       by (inl e) = rw e (omega arith)
       by (inr (inl (l, e))) =
           crossed (price steps (slow-at steps c s)) (price steps (slow-at steps c t)) (way-done jobs k give t) (k * done-by steps c t)
-            (price-grows steps (d .lawful) (slow-at steps c s) (slow-at steps c t) l (slow-at-known steps jobs c d t))
-            (let a = way-under steps jobs k pick give w t (leg .inside) in
-             let b = ap (λ (x : ℕ). k * x) e in
-             let f = mul-assoc k unit (ceiling jobs t) in
-             omega arith)
+          (price-grows steps (d .lawful) (slow-at steps c s) (slow-at steps c t) l (slow-at-known steps jobs c d t))
+          (let a = way-under steps jobs k pick give w t (leg .inside) in
+          let b = ap (λ (x : ℕ). k * x) e in
+          let f = mul-assoc k unit (ceiling jobs t) in
+          omega arith)
       by (inr (inr (l, e))) =
           let g = crossed (price steps (slow-at steps c t)) (price steps (slow-at steps c s)) (k * done-by steps c t) (way-done jobs k give t)
-                (price-grows steps (d .lawful) (slow-at steps c t) (slow-at steps c s) l (slow-at-known steps jobs c d s))
-                (let a = way-over steps jobs k pick give w t (leg .inside) in
-                 let b = ap (λ (x : ℕ). k * x) e in
-                 let f = mul-assoc k unit (floor jobs t) in
-                 omega arith) in
+          (price-grows steps (d .lawful) (slow-at steps c t) (slow-at steps c s) l (slow-at-known steps jobs c d s))
+          (let a = way-over steps jobs k pick give w t (leg .inside) in
+          let b = ap (λ (x : ℕ). k * x) e in
+          let f = mul-assoc k unit (floor jobs t) in
+          omega arith) in
           omega arith
 
   -- from any cut on
   from-cut : (s : ℕ) (ts : List ℕ) → Course steps jobs c s ts
-    → unit * (k * energy steps (stretches steps c (s ∷ ts))) + price-from s * (k * done-by steps c s) + unit * spent s ≤ unit * spent (span jobs) + price-from s * way-done jobs k give s
+      → unit * (k * energy steps (stretches steps c (s ∷ ts))) + price-from s * (k * done-by steps c s) + unit * spent s ≤ unit * spent (span jobs) + price-from s * way-done jobs k give s
   from-cut s [] e =
       let z = ap (λ (x : ℕ). k * x) (energy-none steps c s) in
       let z0 = mul-zero k in
       let same : k * done-by steps c s ≡ way-done jobs k give s =
-            ap (λ (x : ℕ). k * x) (ap (done-by steps c) e ∙ done-end steps jobs c d)
-            ∙ (sym (mul-assoc k unit (total jobs)) ∙ (sym (way-total steps jobs k pick give w) ∙ sym (ap (way-done jobs k give) e))) in
+      ap (λ (x : ℕ). k * x) (ap (done-by steps c) e ∙ done-end steps jobs c d)
+      ∙ (sym (mul-assoc k unit (total jobs)) ∙ (sym (way-total steps jobs k pick give w) ∙ sym (ap (way-done jobs k give) e))) in
       let worth = ap (λ (x : ℕ). price-from s * x) same in
       let p = ap spent e in
       omega arith
@@ -208,14 +207,14 @@ module _ (steps : List Step) (jobs : List Job) (c : List Point) (d : Drawable st
       let slow : ℕ = power-at steps (slow-at steps c s) * (ticks-between s t - fast-at steps c s t) in
       let fast : ℕ = power-at steps (suc (slow-at steps c s)) * fast-at steps c s t in
       let whole : energy steps (stretches steps c (s ∷ (t ∷ ts))) ≡ slow + fast + energy steps (stretches steps c (t ∷ ts))
-            = energy-leg steps c s t ts ∙ sym (add-assoc slow fast (energy steps (stretches steps c (t ∷ ts)))) in
+      = energy-leg steps c s t ts ∙ sym (add-assoc slow fast (energy steps (stretches steps c (t ∷ ts)))) in
       rw whole (leg-back unit k (slow + fast) (energy steps (stretches steps c (t ∷ ts))) (done-by steps c s) (done-by steps c t) (spent s) (spent t) (spent (span jobs))
-        (way-done jobs k give s) (way-done jobs k give t) (price-from s) (price-from t) (speed-at steps h) (power-at steps h) (ticks-between s t) (s * unit * k)
-        (from-cut t ts rest) (plan-leg s t leg)
-        (subst (λ (x : ℕ). unit * power-at steps h * x + price-from s * way-done jobs k give t + (price-from s * speed-at steps h * (s * unit * k) + unit * spent s)
-            ≤ price-from s * speed-at steps h * x + unit * spent t + (unit * power-at steps h * (s * unit * k) + price-from s * way-done jobs k give s))
-          (parts-leg s t k l) (way-leg s t l (leg .inside)))
-        (price-turn s t leg))
+      (way-done jobs k give s) (way-done jobs k give t) (price-from s) (price-from t) (speed-at steps h) (power-at steps h) (ticks-between s t) (s * unit * k)
+      (from-cut t ts rest) (plan-leg s t leg)
+      (subst (λ (x : ℕ). unit * power-at steps h * x + price-from s * way-done jobs k give t + (price-from s * speed-at steps h * (s * unit * k) + unit * spent s)
+      ≤ price-from s * speed-at steps h * x + unit * spent t + (unit * power-at steps h * (s * unit * k) + price-from s * way-done jobs k give s))
+      (parts-leg s t k l) (way-leg s t l (leg .inside)))
+      (price-turn s t leg))
 
   -- over the whole span
   unbeaten-by : k * energy steps (drawn steps jobs c) ≤ way-energy steps jobs k pick

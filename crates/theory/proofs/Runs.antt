@@ -13,7 +13,7 @@ use Rattle.model.specs.Plan.{segment, attach, joined, ticks-of, energy}
 use Rattle.model.specs.Ways.{step-of}
 use Rattle.model.specs.declared.segment.Segment.{Segment}
 use Rattle.model.specs.declared.step.Step.{Step}
-use Rattle.theory.proofs.Sums.{sum-to-cong, sum-to-split, sum-to-const}
+use Rattle.model.proofs.Sums.{sum-to-cong, sum-to-split, sum-to-const}
 
 -- the step of a tick inside the first run, and after it
 pub step-first : (s : Segment) (ss : List Segment) (m : ℕ) → m < s .ticks → step-of (s ∷ ss) m ≡ s .step
@@ -47,28 +47,32 @@ step-merged : (s n : Segment) (ns : List Segment) → s .step ≡ n .step → (m
 unfolding segment
 step-merged s n ns e m =
     elim (cases-lt m (s .ticks)) [
-      inl l ↦ step-first (segment (n .step) (s .ticks + n .ticks)) ns m (omega arith) ∙ (sym e ∙ sym (step-first s (n ∷ ns) m l))
-    | inr l ↦ elim (cases-lt m (s .ticks + n .ticks)) [
-        inl k ↦
-          step-first (segment (n .step) (s .ticks + n .ticks)) ns m k
-          ∙ sym (step-rest s (n ∷ ns) m l ∙ step-first n ns (m - s .ticks) (omega arith))
-      | inr k ↦
-          let d : m - (s .ticks + n .ticks) ≡ m - s .ticks - n .ticks = omega arith in
-          step-rest (segment (n .step) (s .ticks + n .ticks)) ns m k
-          ∙ (ap (step-of ns) d ∙ sym (step-rest s (n ∷ ns) m l ∙ step-rest n ns (m - s .ticks) (omega arith))) ] ]
+      | inl l ↦ step-first (segment (n .step) (s .ticks + n .ticks)) ns m (omega arith) ∙ (sym e ∙ sym (step-first s (n ∷ ns) m l))
+      | inr l ↦ elim (cases-lt m (s .ticks + n .ticks)) [
+        | inl k ↦
+            step-first (segment (n .step) (s .ticks + n .ticks)) ns m k
+            ∙ sym (step-rest s (n ∷ ns) m l ∙ step-first n ns (m - s .ticks) (omega arith))
+        | inr k ↦
+            let d : m - (s .ticks + n .ticks) ≡ m - s .ticks - n .ticks = omega arith in
+            step-rest (segment (n .step) (s .ticks + n .ticks)) ns m k
+            ∙ (ap (step-of ns) d ∙ sym (step-rest s (n ∷ ns) m l ∙ step-rest n ns (m - s .ticks) (omega arith)))
+      ]
+    ]
 
 step-attach : (s : Segment) (ns : List Segment) (m : ℕ) → step-of (attach s ns) m ≡ step-of (s ∷ ns) m
 step-attach s ns m =
     elim (cases-eq (s .ticks) 0) [
-      inl e ↦ ap (λ (x : List Segment). step-of x m) (attach-none s ns e) ∙ sym (step-rest s ns m (omega arith) ∙ ap (step-of ns) (let d : m - s .ticks ≡ m = omega arith in d))
-    | inr e ↦ some ns e ]
+      | inl e ↦ ap (λ (x : List Segment). step-of x m) (attach-none s ns e) ∙ sym (step-rest s ns m (omega arith) ∙ ap (step-of ns) (let d : m - s .ticks ≡ m = omega arith in d))
+      | inr e ↦ some ns e
+    ]
   where
     some : (ns : List Segment) → (s .ticks ≡ 0 → ⊥) → step-of (attach s ns) m ≡ step-of (s ∷ ns) m
     some [] e = ap (λ (x : List Segment). step-of x m) (attach-last s e)
     some (n ∷ ns) e =
         elim (cases-eq (s .step) (n .step)) [
-          inl f ↦ ap (λ (x : List Segment). step-of x m) (attach-same s n ns e f) ∙ step-merged s n ns f m
-        | inr f ↦ ap (λ (x : List Segment). step-of x m) (attach-other s n ns e f) ]
+          | inl f ↦ ap (λ (x : List Segment). step-of x m) (attach-same s n ns e f) ∙ step-merged s n ns f m
+          | inr f ↦ ap (λ (x : List Segment). step-of x m) (attach-other s n ns e f)
+        ]
 
 -- joining keeps the step of every tick
 pub step-joined : (ss : List Segment) (m : ℕ) → step-of (joined ss) m ≡ step-of ss m
@@ -77,33 +81,35 @@ step-joined [] m = refl
 step-joined (s ∷ ss) m =
     step-attach s (joined ss) m ∙
     elim (cases-lt m (s .ticks)) [
-      inl l ↦ step-first s (joined ss) m l ∙ sym (step-first s ss m l)
-    | inr l ↦ step-rest s (joined ss) m l ∙ (step-joined ss (m - s .ticks) ∙ sym (step-rest s ss m l)) ]
+      | inl l ↦ step-first s (joined ss) m l ∙ sym (step-first s ss m l)
+      | inr l ↦ step-rest s (joined ss) m l ∙ (step-joined ss (m - s .ticks) ∙ sym (step-rest s ss m l))
+    ]
 
 -- joining keeps every sum over runs that adds up with the ticks
 module _ (worth : ℕ → ℕ → ℕ) (none : (h : ℕ) → worth h 0 ≡ 0) (more : (h a b : ℕ) → worth h (a + b) ≡ worth h a + worth h b) where
-
   sum-attach : (s : Segment) (ns : List Segment) → sum-of (λ (r : Segment). worth (r .step) (r .ticks)) (attach s ns) ≡ worth (s .step) (s .ticks) + sum-of (λ (r : Segment). worth (r .step) (r .ticks)) ns
   unfolding sum-of segment
   sum-attach s ns =
       elim (cases-eq (s .ticks) 0) [
-        inl e ↦
-          let a = ap (sum-of (λ (r : Segment). worth (r .step) (r .ticks))) (attach-none s ns e) in
-          let b = ap (worth (s .step)) e in
-          let c = none (s .step) in
-          omega arith
-      | inr e ↦ some ns e ]
+        | inl e ↦
+            let a = ap (sum-of (λ (r : Segment). worth (r .step) (r .ticks))) (attach-none s ns e) in
+            let b = ap (worth (s .step)) e in
+            let c = none (s .step) in
+            omega arith
+        | inr e ↦ some ns e
+      ]
     where
       some : (ns : List Segment) → (s .ticks ≡ 0 → ⊥) → sum-of (λ (r : Segment). worth (r .step) (r .ticks)) (attach s ns) ≡ worth (s .step) (s .ticks) + sum-of (λ (r : Segment). worth (r .step) (r .ticks)) ns
       some [] e = ap (sum-of (λ (r : Segment). worth (r .step) (r .ticks))) (attach-last s e)
       some (n ∷ ns) e =
           elim (cases-eq (s .step) (n .step)) [
-            inl f ↦
-              let a = ap (sum-of (λ (r : Segment). worth (r .step) (r .ticks))) (attach-same s n ns e f) in
-              let b = more (n .step) (s .ticks) (n .ticks) in
-              let c = ap (λ (x : ℕ). worth x (s .ticks)) f in
-              omega arith
-          | inr f ↦ ap (sum-of (λ (r : Segment). worth (r .step) (r .ticks))) (attach-other s n ns e f) ]
+            | inl f ↦
+                let a = ap (sum-of (λ (r : Segment). worth (r .step) (r .ticks))) (attach-same s n ns e f) in
+                let b = more (n .step) (s .ticks) (n .ticks) in
+                let c = ap (λ (x : ℕ). worth x (s .ticks)) f in
+                omega arith
+            | inr f ↦ ap (sum-of (λ (r : Segment). worth (r .step) (r .ticks))) (attach-other s n ns e f)
+          ]
 
   sum-joined : (ss : List Segment) → sum-of (λ (r : Segment). worth (r .step) (r .ticks)) (joined ss) ≡ sum-of (λ (r : Segment). worth (r .step) (r .ticks)) ss
   unfolding joined sum-of
@@ -120,14 +126,14 @@ energy-joined steps ss = sum-joined (λ h n. power-at steps h * n) (λ h. mul-ze
 
 -- over the ticks of the first run and n more
 pub over-first : (worth : ℕ → ℕ) (s : Segment) (ss : List Segment) (n : ℕ)
-  → sum-to (s .ticks + n) (λ m. worth (step-of (s ∷ ss) m)) ≡ worth (s .step) * s .ticks + sum-to n (λ m. worth (step-of ss m))
+    → sum-to (s .ticks + n) (λ m. worth (step-of (s ∷ ss) m)) ≡ worth (s .step) * s .ticks + sum-to n (λ m. worth (step-of ss m))
 over-first worth s ss n =
     let a = sum-to-split (s .ticks) n (λ m. worth (step-of (s ∷ ss) m)) in
     let b = sum-to-cong (s .ticks) (λ m. worth (step-of (s ∷ ss) m)) (λ m. worth (s .step)) (λ m l. ap worth (step-first s ss m l)) in
     let c = sum-to-const (s .ticks) (worth (s .step)) in
     let d = sum-to-cong n (λ m. worth (step-of (s ∷ ss) (s .ticks + m))) (λ m. worth (step-of ss m)) (λ m l.
-              let e : s .ticks + m - s .ticks ≡ m = omega arith in
-              ap worth (step-rest s ss (s .ticks + m) (omega arith) ∙ ap (step-of ss) e)) in
+    let e : s .ticks + m - s .ticks ≡ m = omega arith in
+    ap worth (step-rest s ss (s .ticks + m) (omega arith) ∙ ap (step-of ss) e)) in
     omega arith
 
 -- tick by tick or run by run

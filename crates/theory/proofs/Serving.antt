@@ -17,7 +17,7 @@ use Rattle.model.specs.declared.job.Job.{Job}
 use Rattle.model.specs.declared.point.Point.{Point}
 use Rattle.model.specs.declared.segment.Segment.{Segment}
 use Rattle.model.specs.declared.step.Step.{Step}
-use Rattle.theory.proofs.Sums.{sum-to-cong}
+use Rattle.model.proofs.Sums.{sum-to-cong}
 use Rattle.theory.proofs.Cuts.{Among, arrival-cut, deadline-cut, span-cut, cut-in-span}
 use Rattle.theory.proofs.Tangent.{next-speed}
 use Rattle.theory.proofs.Runs.{step-first, step-rest, step-joined, ticks-joined, over-first, over-all}
@@ -28,7 +28,7 @@ use Rattle.theory.proofs.Least.{plan-unbeaten}
 
 -- the stretches, one leg taken off: two runs and the rest
 stretches-leg : (steps : List Step) (c : List Point) (s t : ℕ) (ts : List ℕ)
-  → stretches steps c (s ∷ (t ∷ ts))
+    → stretches steps c (s ∷ (t ∷ ts))
     ≡ segment (slow-at steps c s) (ticks-between s t - fast-at steps c s t) ∷ (segment (suc (slow-at steps c s)) (fast-at steps c s t) ∷ stretches steps c (t ∷ ts))
 unfolding stretches stretch slow-at fast-at
 stretches-leg steps c s t ts = refl
@@ -43,7 +43,7 @@ no-step-of steps c s m = refl
 
 -- two runs one after the other, a ticks at h and b at the next step
 over-two : (worth : ℕ → ℕ) (h a b n : ℕ) (ss : List Segment)
-  → sum-to (a + (b + n)) (λ m. worth (step-of (segment h a ∷ (segment (suc h) b ∷ ss)) m)) ≡ worth h * a + (worth (suc h) * b + sum-to n (λ m. worth (step-of ss m)))
+    → sum-to (a + (b + n)) (λ m. worth (step-of (segment h a ∷ (segment (suc h) b ∷ ss)) m)) ≡ worth h * a + (worth (suc h) * b + sum-to n (λ m. worth (step-of ss m)))
 unfolding segment
 over-two worth h a b n ss =
     let p = over-first worth (segment h a) (segment (suc h) b ∷ ss) (b + n) in
@@ -64,11 +64,11 @@ two-speeds n f v g l =
 step-either : (P : ℕ → Type 0) (s : Segment) (ss : List Segment) → P (s .step) → ((m : ℕ) → P (step-of ss m)) → (m : ℕ) → P (step-of (s ∷ ss) m)
 step-either P s ss p q m =
     elim (cases-lt m (s .ticks)) [
-      inl l ↦ subst P (sym (step-first s ss m l)) p
-    | inr l ↦ subst P (sym (step-rest s ss m l)) (q (m - s .ticks)) ]
+      | inl l ↦ subst P (sym (step-first s ss m l)) p
+      | inr l ↦ subst P (sym (step-rest s ss m l)) (q (m - s .ticks))
+    ]
 
 module _ (steps : List Step) (jobs : List Job) (c : List Point) (d : Drawable steps jobs c) where
-
   -- the grains of the stretches from s on, before tick n
   from-grains : ℕ → List ℕ → ℕ → ℕ
   from-grains s ts n = sum-to n (λ m. speed-at steps (step-of (stretches steps c (s ∷ ts)) m))
@@ -82,8 +82,8 @@ module _ (steps : List Step) (jobs : List Job) (c : List Point) (d : Drawable st
       let e : ticks-between s t - fast-at steps c s t + (fast-at steps c s t + n) ≡ ticks-between s t + n = omega arith in
       let a = over-two (speed-at steps) (slow-at steps c s) (ticks-between s t - fast-at steps c s t) (fast-at steps c s t) n (stretches steps c (t ∷ ts)) in
       let b : sum-to (ticks-between s t + n) (λ m. speed-at steps (step-of (stretches steps c (s ∷ (t ∷ ts))) m))
-              ≡ speed-at steps (slow-at steps c s) * (ticks-between s t - fast-at steps c s t) + (speed-at steps (suc (slow-at steps c s)) * fast-at steps c s t + sum-to n (λ m. speed-at steps (step-of (stretches steps c (t ∷ ts)) m)))
-            = rw (stretches-leg steps c s t ts, ← e) a in
+      ≡ speed-at steps (slow-at steps c s) * (ticks-between s t - fast-at steps c s t) + (speed-at steps (suc (slow-at steps c s)) * fast-at steps c s t + sum-to n (λ m. speed-at steps (step-of (stretches steps c (t ∷ ts)) m)))
+      = rw (stretches-leg steps c s t ts, ← e) a in
       let v = ap (λ (x : ℕ). x * fast-at steps c s t) (next-speed steps (d .lawful) (slow-at steps c s) h) in
       let w = two-speeds (ticks-between s t) (fast-at steps c s t) (speed-at steps (slow-at steps c s)) (gap steps (slow-at steps c s)) fits in
       omega arith
@@ -102,7 +102,7 @@ module _ (steps : List Step) (jobs : List Job) (c : List Point) (d : Drawable st
 
   -- from s to any later cut the stretches do what is read off the path
   cut-grains : (s : ℕ) (ts : List ℕ) → Course steps jobs c s ts → (x : ℕ) → Among x (s ∷ ts)
-    → (s ≤ x) × (done-by steps c s + from-grains s ts (unit * (x - s)) ≡ done-by steps c x)
+      → (s ≤ x) × (done-by steps c s + from-grains s ts (unit * (x - s)) ≡ done-by steps c x)
   unfolding ticks-between
   cut-grains s [] k x (inl e) = same-cut s [] x e
   cut-grains s (t ∷ ts) k x (inl e) = same-cut s (t ∷ ts) x e
@@ -133,8 +133,8 @@ module _ (steps : List Step) (jobs : List Job) (c : List Point) (d : Drawable st
   cut-steps s (t ∷ ts) m =
       let h = slow-at-known steps jobs c d s in
       rw (stretches-leg steps c s t ts)
-        (step-either (λ (x : ℕ). x < length steps) (segment (slow-at steps c s) (ticks-between s t - fast-at steps c s t)) (segment (suc (slow-at steps c s)) (fast-at steps c s t) ∷ stretches steps c (t ∷ ts)) (omega arith)
-          (step-either (λ (x : ℕ). x < length steps) (segment (suc (slow-at steps c s)) (fast-at steps c s t)) (stretches steps c (t ∷ ts)) h (cut-steps t ts)) m)
+      (step-either (λ (x : ℕ). x < length steps) (segment (slow-at steps c s) (ticks-between s t - fast-at steps c s t)) (segment (suc (slow-at steps c s)) (fast-at steps c s t) ∷ stretches steps c (t ∷ ts)) (omega arith)
+      (step-either (λ (x : ℕ). x < length steps) (segment (suc (slow-at steps c s)) (fast-at steps c s t)) (stretches steps c (t ∷ ts)) h (cut-steps t ts)) m)
 
   -- the drawn plan has the ticks of the span, at steps of the processor
   pub drawn-ticks : ticks-of (drawn steps jobs c) ≡ span jobs * unit
@@ -226,18 +226,20 @@ module _ (steps : List Step) (jobs : List Job) (c : List Point) (d : Drawable st
     able = λ p l. shares-speed steps jobs (drawn steps jobs c) p;
     early = λ i p l b k. none-early i p l (rw (mul-one (job-at jobs i .arrival * unit)) at k);
     late = λ i p l b k. none-late i p l (rw (mul-one (job-at jobs i .deadline * unit)) at k);
-    whole = λ i l. rw (mul-one (span jobs * unit), mul-one (job-at jobs i .work * unit)) (all-given i l) }
+    whole = λ i l. rw (mul-one (span jobs * unit), mul-one (job-at jobs i .work * unit)) (all-given i l);
+  }
 
 -- the drawn plan serves the jobs
 pub plan-serves : (steps : List Step) (jobs : List Job) (c : List Point) → Drawable steps jobs c → Serves steps jobs (drawn steps jobs c)
 plan-serves steps jobs c d = record {
   fills = drawn-ticks steps jobs c d;
   spends = drawn-spends steps jobs c d;
-  way = drawn-way steps jobs c d }
+  way = drawn-way steps jobs c d;
+}
 
 -- its energy tick by tick is its energy run by run
 pub way-energy-of-plan : (steps : List Step) (jobs : List Job) (c : List Point) → Drawable steps jobs c
-  → way-energy steps jobs 1 (step-of (drawn steps jobs c)) ≡ energy steps (drawn steps jobs c)
+    → way-energy steps jobs 1 (step-of (drawn steps jobs c)) ≡ energy steps (drawn steps jobs c)
 unfolding way-energy parts energy
 way-energy-of-plan steps jobs c d =
     let a = over-all (power-at steps) (drawn steps jobs c) in
@@ -253,4 +255,5 @@ plan-least steps jobs c d = record {
   give = share steps jobs (drawn steps jobs c);
   way = drawn-way steps jobs c d;
   reached = way-energy-of-plan steps jobs c d;
-  unbeaten = plan-unbeaten steps jobs c d }
+  unbeaten = plan-unbeaten steps jobs c d;
+}

@@ -17,7 +17,7 @@ use Rattle.model.specs.Ways.{step-of, grains, before, portion, share}
 use Rattle.model.specs.declared.job.Job.{Job}
 use Rattle.model.specs.declared.segment.Segment.{Segment}
 use Rattle.model.specs.declared.step.Step.{Step}
-use Rattle.theory.proofs.Sums.{sum-to-cong, sum-to-mono, sum-to-add, sum-to-mul, sum-to-longer}
+use Rattle.model.proofs.Sums.{sum-to-cong, sum-to-mono, sum-to-add, sum-to-mul, sum-to-longer}
 use Rattle.theory.proofs.Walls.{ceiling-places, floor-places, total-places, sum-to-shorter}
 
 -- a number that does not fall from each place to the next does not fall at all, below a bound
@@ -65,9 +65,9 @@ ceiling-before jobs o i l =
     let f = λ (m : ℕ). cond (ltb (job-at jobs m .arrival) t) (job-at jobs m .work) 0 in
     let a : ceiling jobs t ≡ sum-to (length jobs) f = ceiling-places jobs t in
     let b : sum-to (length jobs) f ≡ sum-to i f = sum-to-shorter i (length jobs) f (omega arith)
-          (λ m x y. cond-false (ltb (job-at jobs m .arrival) t) _ _ (le-ltb _ _ (arrivals-climb jobs o i m x y))) in
+    (λ m x y. cond-false (ltb (job-at jobs m .arrival) t) _ _ (le-ltb _ _ (arrivals-climb jobs o i m x y))) in
     let c : sum-to i f ≤ sum-to i (λ m. job-at jobs m .work) = sum-to-mono i f (λ m. job-at jobs m .work)
-          (λ m x. cond-both (ltb (job-at jobs m .arrival) t) (job-at jobs m .work) 0 (λ y. y ≤ job-at jobs m .work) (λ e. omega arith) (λ e. omega arith)) in
+    (λ m x. cond-both (ltb (job-at jobs m .arrival) t) (job-at jobs m .work) 0 (λ y. y ≤ job-at jobs m .work) (λ e. omega arith) (λ e. omega arith)) in
     let e = before-units jobs i in
     omega arith
 
@@ -79,7 +79,7 @@ before-floor jobs o i l =
     let a : floor jobs t ≡ sum-to (length jobs) f = floor-places jobs t in
     let b : sum-to (suc i) f ≤ sum-to (length jobs) f = sum-to-longer (suc i) (length jobs) f l in
     let c : sum-to (suc i) (λ m. job-at jobs m .work) ≡ sum-to (suc i) f = sum-to-cong (suc i) (λ m. job-at jobs m .work) f
-          (λ m x. sym (cond-true (leb (job-at jobs m .deadline) t) (job-at jobs m .work) 0 (le-leb _ _ (deadlines-climb jobs o m i (omega arith) l)))) in
+    (λ m x. sym (cond-true (leb (job-at jobs m .deadline) t) (job-at jobs m .work) 0 (le-leb _ _ (deadlines-climb jobs o m i (omega arith) l)))) in
     let e = before-units jobs (suc i) in
     omega arith
 
@@ -102,7 +102,6 @@ unfolding portion
 portion-grows jobs i a b l = omega arith
 
 module _ (steps : List Step) (jobs : List Job) (ss : List Segment) where
-
   grains-none : grains steps ss 0 ≡ 0
   unfolding grains sum-to
   grains-none = refl

@@ -19,13 +19,12 @@ price steps h = unit / gap steps h * climb steps h
 slope-order : (u a b p q x y : ℕ) → 0 < a → 0 < b → x * a ≡ u * p → y * b ≡ u * q → p * b ≤ q * a → x ≤ y
 slope-order u a b p q x y a0 b0 ex ey l =
     le-of-mul-le-mul-right {m = x} {n = y} {k = a * b} (
-      let e1 : x * (a * b) ≡ u * (p * b) = sym (mul-assoc x a b) ∙ (ap (λ (z : ℕ). z * b) ex ∙ mul-assoc u p b) in
-      let e2 : y * (a * b) ≡ u * (q * a) = ap (λ (z : ℕ). y * z) (mul-comm a b) ∙ (sym (mul-assoc y b a) ∙ (ap (λ (z : ℕ). z * a) ey ∙ mul-assoc u q a)) in
-      let e3 = mul-le-mul-left u l in
-      omega arith) (mul-pos a0 b0)
+    let e1 : x * (a * b) ≡ u * (p * b) = sym (mul-assoc x a b) ∙ (ap (λ (z : ℕ). z * b) ex ∙ mul-assoc u p b) in
+    let e2 : y * (a * b) ≡ u * (q * a) = ap (λ (z : ℕ). y * z) (mul-comm a b) ∙ (sym (mul-assoc y b a) ∙ (ap (λ (z : ℕ). z * a) ey ∙ mul-assoc u q a)) in
+    let e3 = mul-le-mul-left u l in
+    omega arith) (mul-pos a0 b0)
 
 module _ (steps : List Step) (lawful : Lawful steps) where
-
   -- speeds and powers from step to step
   pub next-speed : (h : ℕ) → suc h < length steps → speed-at steps (suc h) ≡ speed-at steps h + gap steps h
   unfolding gap
@@ -51,7 +50,7 @@ module _ (steps : List Step) (lawful : Lawful steps) where
   price-next h l =
       let k : suc h < length steps = omega arith in
       slope-order unit (gap steps h) (gap steps (suc h)) (climb steps h) (climb steps (suc h)) (price steps h) (price steps (suc h))
-        (gap-positive h k) (gap-positive (suc h) l) (price-gap h k) (price-gap (suc h) l) (lawful .bends h l)
+      (gap-positive h k) (gap-positive (suc h) l) (price-gap h k) (price-gap (suc h) l) (lawful .bends h l)
 
   price-later : (d h : ℕ) → suc (h + d) < length steps → price steps h ≤ price steps (h + d)
   price-later zero h l = let e = ap (price steps) (add-zero h) in omega arith
@@ -72,7 +71,7 @@ module _ (steps : List Step) (lawful : Lawful steps) where
 
   -- the tangent at h, above it and below it
   tangent-up : (d h : ℕ) → suc h < length steps → h + d < length steps
-    → unit * power-at steps h + price steps h * speed-at steps (h + d) ≤ unit * power-at steps (h + d) + price steps h * speed-at steps h
+      → unit * power-at steps h + price steps h * speed-at steps (h + d) ≤ unit * power-at steps (h + d) + price steps h * speed-at steps h
   tangent-up zero h l b = rw (add-zero h) (omega arith)
   tangent-up (suc d) h l b =
       let e = add-suc h d in
@@ -86,14 +85,14 @@ module _ (steps : List Step) (lawful : Lawful steps) where
       rw e (omega arith)
 
   tangent-down : (d s : ℕ) → suc (s + d) < length steps
-    → unit * power-at steps (s + d) + price steps (s + d) * speed-at steps s ≤ unit * power-at steps s + price steps (s + d) * speed-at steps (s + d)
+      → unit * power-at steps (s + d) + price steps (s + d) * speed-at steps s ≤ unit * power-at steps s + price steps (s + d) * speed-at steps (s + d)
   tangent-down zero s l = rw (add-zero s) (omega arith)
   tangent-down (suc d) s l =
       let e = add-suc s d in
       let e2 : suc s + d ≡ suc (s + d) = omega arith in
       let k : suc s < length steps = omega arith in
       let a : unit * power-at steps (suc (s + d)) + price steps (suc (s + d)) * speed-at steps (suc s) ≤ unit * power-at steps (suc s) + price steps (suc (s + d)) * speed-at steps (suc (s + d))
-            = rw e2 at (tangent-down d (suc s) (omega arith)) in
+      = rw e2 at (tangent-down d (suc s) (omega arith)) in
       let v = ap (λ (x : ℕ). price steps (suc (s + d)) * x) (next-speed s k) in
       let v2 = mul-add (price steps (suc (s + d))) (speed-at steps s) (gap steps s) in
       let p = next-power s k in
@@ -103,19 +102,20 @@ module _ (steps : List Step) (lawful : Lawful steps) where
 
   -- at every step s the tangent of h lies on or below
   pub tangent : (h s : ℕ) → suc h < length steps → s < length steps
-    → unit * power-at steps h + price steps h * speed-at steps s ≤ unit * power-at steps s + price steps h * speed-at steps h
+      → unit * power-at steps h + price steps h * speed-at steps s ≤ unit * power-at steps s + price steps h * speed-at steps h
   tangent h s l b =
       elim (cases-lt h s) [
-        inl k ↦
-          let e : h + (s - h) ≡ s = omega arith in
-          rw e at (tangent-up (s - h) h l (omega arith))
-      | inr k ↦
-          let e : s + (h - s) ≡ h = omega arith in
-          rw e at (tangent-down (h - s) s (omega arith)) ]
+        | inl k ↦
+            let e : h + (s - h) ≡ s = omega arith in
+            rw e at (tangent-up (s - h) h l (omega arith))
+        | inr k ↦
+            let e : s + (h - s) ≡ h = omega arith in
+            rw e at (tangent-down (h - s) s (omega arith))
+      ]
 
   -- and so it does for any work that step s can do
   pub tangent-under : (h s w : ℕ) → suc h < length steps → s < length steps → w ≤ speed-at steps s
-    → unit * power-at steps h + price steps h * w ≤ unit * power-at steps s + price steps h * speed-at steps h
+      → unit * power-at steps h + price steps h * w ≤ unit * power-at steps s + price steps h * speed-at steps h
   tangent-under h s w l b k =
       let a = tangent h s l b in
       let m = mul-le-mul-left (price steps h) k in

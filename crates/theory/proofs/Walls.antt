@@ -16,7 +16,7 @@ use Rattle.model.specs.Jobs.{job-at, no-job, total, span, ceiling, floor}
 use Rattle.model.specs.Ways.{Way, parts}
 use Rattle.model.specs.declared.job.Job.{Job}
 use Rattle.model.specs.declared.step.Step.{Step}
-use Rattle.theory.proofs.Sums.{sum-to-cong, sum-to-mono, sum-to-mul, sum-to-split, sum-to-none, sum-to-swap, sum-to-longer}
+use Rattle.model.proofs.Sums.{sum-to-cong, sum-to-mono, sum-to-mul, sum-to-split, sum-to-none, sum-to-swap, sum-to-longer}
 
 -- the first term taken off a sum
 pub sum-to-first : (n : ℕ) (f : ℕ → ℕ) → sum-to (suc n) f ≡ f 0 + sum-to n (λ i. f (suc i))
@@ -63,7 +63,6 @@ abbrev pub way-done : List Job → ℕ → (ℕ → ℕ → ℕ) → ℕ → ℕ
 way-done jobs k give t = sum-to (t * unit * k) (part-grains jobs give)
 
 module _ (steps : List Step) (jobs : List Job) (k : ℕ) (pick : ℕ → ℕ) (give : ℕ → ℕ → ℕ) (w : Way steps jobs k pick give) where
-
   -- the same, job by job
   by-job : (t : ℕ) → way-done jobs k give t ≡ sum-to (length jobs) (λ i. sum-to (t * unit * k) (λ p. give i p))
   by-job t = sum-to-swap (t * unit * k) (length jobs) (λ p i. give i p)
@@ -77,19 +76,20 @@ module _ (steps : List Step) (jobs : List Job) (k : ℕ) (pick : ℕ → ℕ) (g
 
   -- no job has more by time t than its work, and none if it has not arrived
   under-one : (t : ℕ) → t ≤ span jobs → (i : ℕ) → i < length jobs
-    → sum-to (t * unit * k) (λ p. give i p) ≤ k * unit * cond (ltb (job-at jobs i .arrival) t) (job-at jobs i .work) 0
+      → sum-to (t * unit * k) (λ p. give i p) ≤ k * unit * cond (ltb (job-at jobs i .arrival) t) (job-at jobs i .work) 0
   under-one t l i b =
       elim (cases-lt (job-at jobs i .arrival) t) [
-        inl a ↦
-          let c = cond-true (ltb (job-at jobs i .arrival) t) (job-at jobs i .work) 0 (lt-ltb _ _ a) in
-          rw c (
+        | inl a ↦
+            let c = cond-true (ltb (job-at jobs i .arrival) t) (job-at jobs i .work) 0 (lt-ltb _ _ a) in
+            rw c (
             let m = sum-to-longer (t * unit * k) (parts jobs k) (give i) (in-span t l) in
             let e = w .whole i b in
             let f = work-form (job-at jobs i .work) in
             omega arith)
-      | inr a ↦
-          let z : sum-to (t * unit * k) (give i) ≡ 0 = sum-to-none (t * unit * k) (give i) (λ p q. w .early i p b (let s = in-span t l in omega arith) (let s = mul-le-mul-right k (mul-le-mul-right unit a) in omega arith)) in
-          omega arith ]
+        | inr a ↦
+            let z : sum-to (t * unit * k) (give i) ≡ 0 = sum-to-none (t * unit * k) (give i) (λ p q. w .early i p b (let s = in-span t l in omega arith) (let s = mul-le-mul-right k (mul-le-mul-right unit a) in omega arith)) in
+            omega arith
+      ]
 
   pub way-under : (t : ℕ) → t ≤ span jobs → way-done jobs k give t ≤ k * unit * ceiling jobs t
   way-under t l =
@@ -101,19 +101,20 @@ module _ (steps : List Step) (jobs : List Job) (k : ℕ) (pick : ℕ → ℕ) (g
 
   -- a job that is due by time t has all its work by then
   over-one : (t : ℕ) → t ≤ span jobs → (i : ℕ) → i < length jobs
-    → k * unit * cond (leb (job-at jobs i .deadline) t) (job-at jobs i .work) 0 ≤ sum-to (t * unit * k) (λ p. give i p)
+      → k * unit * cond (leb (job-at jobs i .deadline) t) (job-at jobs i .work) 0 ≤ sum-to (t * unit * k) (λ p. give i p)
   over-one t l i b =
       elim (cases-lt t (job-at jobs i .deadline)) [
-        inl a ↦
-          let c = cond-false (leb (job-at jobs i .deadline) t) (job-at jobs i .work) 0 (lt-leb _ _ a) in
-          rw c (let z = mul-zero (k * unit) in omega arith)
-      | inr a ↦
-          let c = cond-true (leb (job-at jobs i .deadline) t) (job-at jobs i .work) 0 (le-leb _ _ a) in
-          rw c (
+        | inl a ↦
+            let c = cond-false (leb (job-at jobs i .deadline) t) (job-at jobs i .work) 0 (lt-leb _ _ a) in
+            rw c (let z = mul-zero (k * unit) in omega arith)
+        | inr a ↦
+            let c = cond-true (leb (job-at jobs i .deadline) t) (job-at jobs i .work) 0 (le-leb _ _ a) in
+            rw c (
             let m = sum-to-shorter (t * unit * k) (parts jobs k) (give i) (in-span t l) (λ p q r. w .late i p b r (let s = mul-le-mul-right k (mul-le-mul-right unit a) in omega arith)) in
             let e = w .whole i b in
             let f = work-form (job-at jobs i .work) in
-            omega arith) ]
+            omega arith)
+      ]
 
   pub way-over : (t : ℕ) → t ≤ span jobs → k * unit * floor jobs t ≤ way-done jobs k give t
   way-over t l =

@@ -1,0 +1,12 @@
+use borrow.Author.Needs.{needs}
+use mathlib.Core.Bool.{true}
+use mathlib.Core.List.{List}
+use mathlib.Core.Path.{_≡_, sym, subst}
+use Rattle.model.specs.declared.job.Job.{Job}
+use Rattle.queue.specs.Queues.{standing}
+use Rattle.queue.proofs.Order.{standing-none}
+use Rattle.queue.proofs.queue.Queue.clear.Needs as need
+
+pub ghost-self : need.ghost-self
+ghost-self c =
+    (search needs, (search needs, (subst (λ (xs : List Job). standing xs ≡ true) (sym (c .clear .ensures .items)) standing-none, tt)))
