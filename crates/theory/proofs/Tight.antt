@@ -96,7 +96,7 @@ tight-back-is up n p qs x l b =
 -- the chains of the sweep stay bent
 
 -- known later, bent as before
-bent-on : (up : Bool) (n m : ℕ) (p : Point) (qs : List Point) → n ≤ m → Bent up n p qs → Bent up m p qs
+pub bent-on : (up : Bool) (n m : ℕ) (p : Point) (qs : List Point) → n ≤ m → Bent up n p qs → Bent up m p qs
 bent-on up n m p [] l b = omega arith
 bent-on up n m p (q ∷ qs) l (a, o, b) = (a, o, bent-on up n m q qs l b)
 
@@ -125,7 +125,7 @@ pass-bent up dn m x p [] b = b
 pass-bent up dn m x p (c ∷ cs) b =
     cond-both (inward (inner up) p x c) _ _ (λ (r : Passed). Bent dn m (r .apex) (r .rest)) (λ e. pass-bent up dn m x c cs (b .2)) (λ e. b)
 
-take-in-bent : (up dn : Bool) (n m : ℕ) (p : Point) (own other : List Point) (x : Point) → n < x .time → m ≤ x .time → Bent up n p own → Bent dn m p other
+pub take-in-bent : (up dn : Bool) (n m : ℕ) (p : Point) (own other : List Point) (x : Point) → n < x .time → m ≤ x .time → Bent up n p own → Bent dn m p other
     → Bent up (x .time) (take-in (inner up) p own other x .apex) (take-in (inner up) p own other x .own) × Bent dn m (take-in (inner up) p own other x .apex) (take-in (inner up) p own other x .other)
 unfolding take-in
 take-in-bent up dn n m p own other x l k a b =

@@ -1,0 +1,6 @@
+pub mod Tightened
+pub mod Parts
+pub mod Passes
+pub mod Taking
+pub mod Crossing
+pub mod Going
