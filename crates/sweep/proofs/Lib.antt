@@ -4,3 +4,4 @@ pub mod Passes
 pub mod Taking
 pub mod Crossing
 pub mod Going
+pub mod Surveyed
