@@ -1,0 +1,4 @@
+pub mod Steps
+pub mod Keeping
+pub mod Totals
+pub mod Soundness
