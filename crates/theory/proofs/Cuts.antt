@@ -76,7 +76,7 @@ insert-keeps t (s ∷ ss) x m =
     further more (inr n) = inr (more n)
 
 -- and nothing else
-insert-only : (t : ℕ) (ss : List ℕ) (x : ℕ) → Among x (insert t ss) → (x ≡ t) ⊎ Among x ss
+pub insert-only : (t : ℕ) (ss : List ℕ) (x : ℕ) → Among x (insert t ss) → (x ≡ t) ⊎ Among x ss
 unfolding insert
 insert-only t [] x (inl e) = inl e
 insert-only t [] x (inr m) = absurd m
