@@ -1,1 +1,2 @@
 pub mod Worthy
+pub mod Worked

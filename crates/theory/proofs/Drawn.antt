@@ -69,7 +69,7 @@ unfolding piece-from
 piece-first p q [] t l = refl
 piece-first p q (r ∷ rs) t l = cond-true (ltb t (q .time)) _ _ (lt-ltb t (q .time) l)
 
-piece-rest : (p q r : Point) (rs : List Point) (t : ℕ) → q .time ≤ t → piece-from p (q ∷ (r ∷ rs)) t ≡ piece-from q (r ∷ rs) t
+pub piece-rest : (p q r : Point) (rs : List Point) (t : ℕ) → q .time ≤ t → piece-from p (q ∷ (r ∷ rs)) t ≡ piece-from q (r ∷ rs) t
 unfolding piece-from
 piece-rest p q r rs t l = cond-false (ltb t (q .time)) _ _ (le-ltb t (q .time) l)
 
@@ -104,7 +104,7 @@ on-from steps jobs p (q ∷ (r ∷ rs)) k a g b t l =
 abbrev pub Next : List Job → ℕ → Piece → Piece → Type 0
 Next jobs t l m = (m ≡ l) ⊎ ((m .from ≡ l .to) × (l .to .time ≡ t) × Turns jobs (l .from) (l .to) (m .to))
 
-next-from : (jobs : List Job) (p : Point) (c : List Point) → Kept jobs p c → (s t : ℕ) → p .time ≤ s → s ≤ t → t ≤ piece-from p c s .to .time
+pub next-from : (jobs : List Job) (p : Point) (c : List Point) → Kept jobs p c → (s t : ℕ) → p .time ≤ s → s ≤ t → t ≤ piece-from p c s .to .time
     → Next jobs t (piece-from p c s) (piece-from p c t)
 unfolding piece-from
 next-from jobs p [] k s t a b l = inl refl

@@ -169,7 +169,7 @@ At-cuts ts [] = Unit
 At-cuts ts (q ∷ qs) = (some-of (λ s. eqb s (q .time)) ts ≡ true) × At-cuts ts qs
 
 -- so are all candidates
-abbrev All-at : List ℕ → List (List Point) → Type 0
+abbrev pub All-at : List ℕ → List (List Point) → Type 0
 All-at ts [] = Unit
 All-at ts (c ∷ cs) = At-cuts ts c × All-at ts cs
 
@@ -181,7 +181,7 @@ all-map : (ts : List ℕ) (q : Point) (cs : List (List Point)) → has ts (q .ti
 all-map ts q [] e a = tt
 all-map ts q (c ∷ cs) e (x, a) = ((e, x), all-map ts q cs e a)
 
-choices-at : (jobs : List Job) (all ts : List ℕ) → has all (span jobs) ≡ true → ((u : ℕ) → has ts u ≡ true → has all u ≡ true) → All-at all (choices jobs ts)
+pub choices-at : (jobs : List Job) (all ts : List ℕ) → has all (span jobs) ≡ true → ((u : ℕ) → has ts u ≡ true → has all u ≡ true) → All-at all (choices jobs ts)
 unfolding choices finish
 choices-at jobs all [] e h = ((e, tt), tt)
 choices-at jobs all (t ∷ ts) e h =

@@ -28,4 +28,5 @@ pub mod Overfull
 pub mod Paying
 pub mod Counting
 pub mod Planned
+pub mod Same
 pub mod Rows

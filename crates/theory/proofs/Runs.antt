@@ -25,20 +25,20 @@ unfolding step-of
 step-rest s ss m l = cond-false (ltb m (s .ticks)) _ _ (le-ltb m (s .ticks) l)
 
 -- the three cases of a run set before a plan
-attach-none : (s : Segment) (ns : List Segment) → s .ticks ≡ 0 → attach s ns ≡ ns
+pub attach-none : (s : Segment) (ns : List Segment) → s .ticks ≡ 0 → attach s ns ≡ ns
 unfolding attach
 attach-none s [] e = cond-true (eqb (s .ticks) 0) _ _ (eq-eqb _ _ e)
 attach-none s (n ∷ ns) e = cond-true (eqb (s .ticks) 0) _ _ (eq-eqb _ _ e)
 
-attach-last : (s : Segment) → (s .ticks ≡ 0 → ⊥) → attach s [] ≡ s ∷ []
+pub attach-last : (s : Segment) → (s .ticks ≡ 0 → ⊥) → attach s [] ≡ s ∷ []
 unfolding attach
 attach-last s e = cond-false (eqb (s .ticks) 0) _ _ (ne-eqb _ _ e)
 
-attach-same : (s n : Segment) (ns : List Segment) → (s .ticks ≡ 0 → ⊥) → s .step ≡ n .step → attach s (n ∷ ns) ≡ segment (n .step) (s .ticks + n .ticks) ∷ ns
+pub attach-same : (s n : Segment) (ns : List Segment) → (s .ticks ≡ 0 → ⊥) → s .step ≡ n .step → attach s (n ∷ ns) ≡ segment (n .step) (s .ticks + n .ticks) ∷ ns
 unfolding attach
 attach-same s n ns e f = cond-false (eqb (s .ticks) 0) _ _ (ne-eqb _ _ e) ∙ cond-true (eqb (s .step) (n .step)) _ _ (eq-eqb _ _ f)
 
-attach-other : (s n : Segment) (ns : List Segment) → (s .ticks ≡ 0 → ⊥) → (s .step ≡ n .step → ⊥) → attach s (n ∷ ns) ≡ s ∷ (n ∷ ns)
+pub attach-other : (s n : Segment) (ns : List Segment) → (s .ticks ≡ 0 → ⊥) → (s .step ≡ n .step → ⊥) → attach s (n ∷ ns) ≡ s ∷ (n ∷ ns)
 unfolding attach
 attach-other s n ns e f = cond-false (eqb (s .ticks) 0) _ _ (ne-eqb _ _ e) ∙ cond-false (eqb (s .step) (n .step)) _ _ (ne-eqb _ _ f)
 

@@ -54,10 +54,10 @@ count-splits (suc n) b down = more (count-splits n b (λ i l. down i (omega arit
 
 module _ (steps : List Step) (lawful : Lawful steps) (l : Piece) where
   -- whether the step after i is no faster than the slope
-  abbrev reaches : ℕ → Bool
+  abbrev pub reaches : ℕ → Bool
   reaches i = leb (speed-at steps (suc i) * run (l .from) (l .to)) (rise (l .from) (l .to))
 
-  splits : (slow-step steps l ≤ length steps - 2) × ((i : ℕ) → i < slow-step steps l → reaches i ≡ true) × ((i : ℕ) → slow-step steps l ≤ i → i < length steps - 2 → reaches i ≡ false)
+  pub splits : (slow-step steps l ≤ length steps - 2) × ((i : ℕ) → i < slow-step steps l → reaches i ≡ true) × ((i : ℕ) → slow-step steps l ≤ i → i < length steps - 2 → reaches i ≡ false)
   unfolding slow-step
   splits = count-splits (length steps - 2) reaches (λ i k e.
       let f = lawful .faster (suc i) (omega arith) in

@@ -128,7 +128,7 @@ scaled jobs c d k l t m =
     omega arith
 
 -- equal fractions: a / s and b / r are x / u and y / v
-cross : (a b s r x y u v : ℕ) → 0 < s → 0 < r → a * r ≡ b * s → a * u ≡ x * s → b * v ≡ y * r → x * v ≡ y * u
+pub cross : (a b s r x y u v : ℕ) → 0 < s → 0 < r → a * r ≡ b * s → a * u ≡ x * s → b * v ≡ y * r → x * v ≡ y * u
 cross a b s r x y u v p q e f g =
     let pos = mul-pos p q in
     let h = simp terms at (ap (λ (z : ℕ). z * (u * v)) e) in
