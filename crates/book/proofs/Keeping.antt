@@ -37,8 +37,9 @@ none-some j e = true≢false (sym (ap (λ (o : Option Job). isSome o) e))
 pub clear-first : (l : Line) (ls : List Line) → first-of (l ∷ ls) ≡ None → (l .holds ≡ false) × (first-of ls ≡ None)
 clear-first l ls e =
     elim (cases-bool (l .holds)) [
-      inl h ↦ absurd (some-none (told (l .number) (l .detail)) (sym (first-hit l ls h) ∙ e))
-    | inr h ↦ (h, sym (first-pass l ls h) ∙ e) ]
+      | inl h ↦ absurd (some-none (told (l .number) (l .detail)) (sym (first-hit l ls h) ∙ e))
+      | inr h ↦ (h, sym (first-pass l ls h) ∙ e)
+    ]
 
 -- and so does each of its parts
 pub clear-front : (ls ms : List Line) → first-of (ls ++ ms) ≡ None → (first-of ls ≡ None) × (first-of ms ≡ None)
@@ -71,17 +72,19 @@ kept-becomes s (takes n) k e = by (s .held) refl
     by (Some j) h = let (x, y) = kept-with (s .jobs) j (k .stands) (k .waits j h) in record { stands = x; few = y; waits = λ i g. absurd (none-some i g) }
 kept-becomes s (releases n) k e = record { stands = k .stands; few = k .few; waits = λ i g. absurd (none-some i g) }
 kept-becomes s strikes k e = record {
-    stands = standing-take (s .jobs) (length (s .jobs) - 1) (k .stands);
-    few = let n = length-take (length (s .jobs) - 1) (s .jobs) in let f = k .few in omega arith;
-    waits = λ i g. absurd (none-some i g) }
+  stands = standing-take (s .jobs) (length (s .jobs) - 1) (k .stands);
+  few = let n = length-take (length (s .jobs) - 1) (s .jobs) in let f = k .few in omega arith;
+  waits = λ i g. absurd (none-some i g);
+}
 kept-becomes s (plans steps buffer) k e = k
 kept-becomes s (closes steps) k e = record { stands = standing-none; few = omega arith; waits = λ i g. absurd (none-some i g) }
 
 pub kept-after : (s : State) (c : Call) → Kept s → Kept (after s c)
 kept-after s c k =
     elim (none-or-some (first-of (lines s c))) [
-      inl e ↦ subst Kept (sym (after-accepted s c e)) (kept-becomes s c k e)
-    | inr r ↦ subst Kept (sym (after-refused s c (r .0) (r .1))) k ]
+      | inl e ↦ subst Kept (sym (after-accepted s c e)) (kept-becomes s c k e)
+      | inr r ↦ subst Kept (sym (after-refused s c (r .0) (r .1))) k
+    ]
 
 pub kept-new : (n : ℕ) → Kept (new n)
 kept-new n = record { stands = standing-none; few = omega arith; waits = λ i g. absurd (none-some i g) }

@@ -38,7 +38,6 @@ not-held (Some j) e = absurd (true≢false e)
 
 -- a plan, by the first line of its table that holds
 module _ (s : State) (steps : List Step) (buffer : List Segment) (w : Worth steps (s .jobs)) where
-
   Fine : Answer → Type 0
   Fine a = Plan-good s steps buffer a × Want-exact s steps a
 
@@ -53,17 +52,20 @@ module _ (s : State) (steps : List Step) (buffer : List Segment) (w : Worth step
   plan-open : isSome (s .held) ≡ true → Fine (answer s (plans steps buffer))
   unfolding Fine
   plan-open h =
-      subst Fine (sym (by-table (told 8 0) (first-hit (open-line s) (plan-lines steps (s .jobs) (length buffer)) h)))
-      (tt, record {
-        only = λ e. absurd (omega (arith, e));
-        always = λ e n. absurd (both-ways (isSome (s .held)) (ap (λ (o : Option Job). isSome o) e) h) })
+      subst Fine (sym (by-table (told 8 0) (first-hit (open-line s) (plan-lines steps (s .jobs) (length buffer)) h))) (
+        tt,
+        record {
+          only = λ e. absurd (omega (arith, e));
+          always = λ e n. absurd (both-ways (isSome (s .held)) (ap (λ (o : Option Job). isSome o) e) h);
+        },
+      )
 
   plan-wanting : isSome (s .held) ≡ false → want steps (s .jobs) ≡ true → Fine (answer s (plans steps buffer))
   unfolding Fine
   plan-wanting h x =
       subst Fine
       (sym (by-table (told 16 (suc (wanting steps (s .jobs))))
-        (first-pass (open-line s) (plan-lines steps (s .jobs) (length buffer)) h ∙ first-hit (want-line steps (s .jobs)) (room-line steps (s .jobs) (length buffer) ∷ []) x)))
+      (first-pass (open-line s) (plan-lines steps (s .jobs) (length buffer)) h ∙ first-hit (want-line steps (s .jobs)) (room-line steps (s .jobs) (length buffer) ∷ []) x)))
       (tt, record { only = λ e. (not-held (s .held) h, w .no-way x); always = λ e n. refl })
 
   plan-short : isSome (s .held) ≡ false → want steps (s .jobs) ≡ false → ltb (length buffer) (length (plan steps (s .jobs))) ≡ true → Fine (answer s (plans steps buffer))
@@ -71,9 +73,9 @@ module _ (s : State) (steps : List Step) (buffer : List Segment) (w : Worth step
   plan-short h x r =
       subst Fine
       (sym (by-table (told 18 (length (plan steps (s .jobs))))
-        (first-pass (open-line s) (plan-lines steps (s .jobs) (length buffer)) h
-        ∙ (first-pass (want-line steps (s .jobs)) (room-line steps (s .jobs) (length buffer) ∷ []) x
-        ∙ first-hit (room-line steps (s .jobs) (length buffer)) [] r))))
+      (first-pass (open-line s) (plan-lines steps (s .jobs) (length buffer)) h
+      ∙ (first-pass (want-line steps (s .jobs)) (room-line steps (s .jobs) (length buffer) ∷ []) x
+      ∙ first-hit (room-line steps (s .jobs) (length buffer)) [] r))))
       (tt, record { only = λ e. absurd (omega (arith, e)); always = λ e n. absurd (n (w .some-way x)) })
 
   plan-taken : isSome (s .held) ≡ false → want steps (s .jobs) ≡ false → ltb (length buffer) (length (plan steps (s .jobs))) ≡ false → Fine (answer s (plans steps buffer))
@@ -81,28 +83,32 @@ module _ (s : State) (steps : List Step) (buffer : List Segment) (w : Worth step
   plan-taken h x r =
       subst Fine
       (sym (answer-accepted s (plans steps buffer)
-        (ap first-of table
-        ∙ (first-pass (open-line s) (plan-lines steps (s .jobs) (length buffer)) h
-        ∙ (first-pass (want-line steps (s .jobs)) (room-line steps (s .jobs) (length buffer) ∷ []) x
-        ∙ first-pass (room-line steps (s .jobs) (length buffer)) [] r)))))
-      (record { count = refl; filled-is = refl; energy-is = refl; serves = w .serves x; unbeaten = w .least x .unbeaten },
-      record { only = λ e. absurd e; always = λ e n. absurd (n (w .some-way x)) })
+      (ap first-of table
+      ∙ (first-pass (open-line s) (plan-lines steps (s .jobs) (length buffer)) h
+      ∙ (first-pass (want-line steps (s .jobs)) (room-line steps (s .jobs) (length buffer) ∷ []) x
+      ∙ first-pass (room-line steps (s .jobs) (length buffer)) [] r))))) (
+        record { count = refl; filled-is = refl; energy-is = refl; serves = w .serves x; unbeaten = w .least x .unbeaten },
+        record { only = λ e. absurd e; always = λ e n. absurd (n (w .some-way x)) },
+      )
 
   pub good-plan : Plan-good s steps buffer (answer s (plans steps buffer)) × Want-exact s steps (answer s (plans steps buffer))
   unfolding Fine
   good-plan =
       elim (cases-bool (isSome (s .held))) [
-        inl h ↦ plan-open h
-      | inr h ↦ elim (cases-bool (want steps (s .jobs))) [
-          inl x ↦ plan-wanting h x
-        | inr x ↦ elim (cases-bool (ltb (length buffer) (length (plan steps (s .jobs))))) [ inl r ↦ plan-short h x r | inr r ↦ plan-taken h x r ] ] ]
+        | inl h ↦ plan-open h
+        | inr h ↦ elim (cases-bool (want steps (s .jobs))) [
+          | inl x ↦ plan-wanting h x
+          | inr x ↦ elim (cases-bool (ltb (length buffer) (length (plan steps (s .jobs))))) [ inl r ↦ plan-short h x r | inr r ↦ plan-taken h x r ]
+        ]
+      ]
 
 -- a close, by whether its table refuses it
 good-close : (s : State) (steps : List Step) → Worth steps (s .jobs) → Close-least s steps (answer s (closes steps))
 good-close s steps w =
     elim (none-or-some (first-of (lines s (closes steps)))) [
-      inl e ↦ subst (Close-least s steps) (sym (answer-accepted s (closes steps) e)) (taken e)
-    | inr r ↦ subst (Close-least s steps) (sym (answer-refused s (closes steps) (r .0) (r .1))) tt ]
+      | inl e ↦ subst (Close-least s steps) (sym (answer-accepted s (closes steps) e)) (taken e)
+      | inr r ↦ subst (Close-least s steps) (sym (answer-refused s (closes steps) (r .0) (r .1))) tt
+    ]
   where
     taken : first-of (lines s (closes steps)) ≡ None → Close-least s steps (accepts s (closes steps))
     taken e = unfold accepts in w .least (clear-first (want-line steps (s .jobs)) (limit-line s steps ∷ []) (clear-first (open-line s) (want-line steps (s .jobs) ∷ (limit-line s steps ∷ [])) (unfold lines in e) .1) .0)

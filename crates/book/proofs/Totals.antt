@@ -21,37 +21,34 @@ use Rattle.queue.proofs.Order.{standing-fit, limits}
 use Rattle.refusal.specs.Refusals.{first-of}
 use Rattle.refusal.proofs.Lines.{none-or-some}
 use Rattle.theory.proofs.Paying.{charges-add-up}
+use Rattle.charges.specs.Owing.{settled}
 use Rattle.book.specs.Calls.{State, Call, Answer, charged, raised, lines, accepts, becomes, answer, after, new}
 use Rattle.book.specs.Calls.Call.{enters, holds, takes, releases, strikes, plans, closes}
 use Rattle.book.specs.Sound.{energy-closed}
 use Rattle.book.proofs.Steps.{answer-refused, answer-accepted, after-refused, after-accepted}
 use Rattle.book.proofs.Keeping.{Kept}
 
--- the charges that a close leaves
-raised-to : List Step → List Job → List ℕ → ℕ → List ℕ
-raised-to steps jobs charges zero = []
-raised-to steps jobs charges (suc a) = raised-to steps jobs charges a ++ ((getD charges a 0 + charge steps jobs (plan steps jobs) a) ∷ [])
-
-raised-length : (steps : List Step) (jobs : List Job) (charges : List ℕ) (n : ℕ) → length (raised-to steps jobs charges n) ≡ n
-unfolding raised-to
+raised-length : (steps : List Step) (jobs : List Job) (charges : List ℕ) (n : ℕ) → length (settled steps jobs (plan steps jobs) charges n) ≡ n
+unfolding settled
 raised-length steps jobs charges zero = refl
 raised-length steps jobs charges (suc n) =
     let a = raised-length steps jobs charges n in
-    let b = length-push (raised-to steps jobs charges n) (getD charges n 0 + charge steps jobs (plan steps jobs) n) in omega arith
+    let b = length-push (settled steps jobs (plan steps jobs) charges n) (getD charges n 0 + charge steps jobs (plan steps jobs) n) in omega arith
 
-raised-place : (steps : List Step) (jobs : List Job) (charges : List ℕ) (n a : ℕ) → a < n → getD (raised-to steps jobs charges n) a 0 ≡ getD charges a 0 + charge steps jobs (plan steps jobs) a
-unfolding raised-to
+raised-place : (steps : List Step) (jobs : List Job) (charges : List ℕ) (n a : ℕ) → a < n → getD (settled steps jobs (plan steps jobs) charges n) a 0 ≡ getD charges a 0 + charge steps jobs (plan steps jobs) a
+unfolding settled
 raised-place steps jobs charges zero a l = absurd (omega arith)
 raised-place steps jobs charges (suc n) a l =
     let m = raised-length steps jobs charges n in
     elim (cases-lt a n) [
-      inl k ↦ getD-append-left (raised-to steps jobs charges n) (_ ∷ []) 0 a (omega arith) ∙ raised-place steps jobs charges n a k
-    | inr k ↦ let e : length (raised-to steps jobs charges n) ≡ a = omega arith in
-        let s : n ≡ a = omega arith in
-        getD-push (raised-to steps jobs charges n) (getD charges n 0 + charge steps jobs (plan steps jobs) n) 0 a e ∙ ap (λ (i : ℕ). getD charges i 0 + charge steps jobs (plan steps jobs) i) s ]
+      | inl k ↦ getD-append-left (settled steps jobs (plan steps jobs) charges n) (_ ∷ []) 0 a (omega arith) ∙ raised-place steps jobs charges n a k
+      | inr k ↦ let e : length (settled steps jobs (plan steps jobs) charges n) ≡ a = omega arith in
+          let s : n ≡ a = omega arith in
+          getD-push (settled steps jobs (plan steps jobs) charges n) (getD charges n 0 + charge steps jobs (plan steps jobs) n) 0 a e ∙ ap (λ (i : ℕ). getD charges i 0 + charge steps jobs (plan steps jobs) i) s
+    ]
 
-raised-is : (steps : List Step) (jobs : List Job) (charges : List ℕ) → raised steps jobs charges ≡ raised-to steps jobs charges 65
-unfolding raised raised-to
+raised-is : (steps : List Step) (jobs : List Job) (charges : List ℕ) → raised steps jobs charges ≡ settled steps jobs (plan steps jobs) charges 65
+unfolding raised
 raised-is steps jobs charges = refl
 
 pub raised-at : (steps : List Step) (jobs : List Job) (charges : List ℕ) (a : ℕ) → a < 65 → getD (raised steps jobs charges) a 0 ≡ getD charges a 0 + charge steps jobs (plan steps jobs) a
@@ -83,8 +80,9 @@ charged-becomes s (closes steps) k = charged-close steps (s .jobs) (s .charges) 
 pub charged-after : (s : State) (c : Call) → Kept s → charged (after s c) ≡ charged s + energy-closed (answer s c)
 charged-after s c k =
     elim (none-or-some (first-of (lines s c))) [
-      inl e ↦ ap charged (after-accepted s c e) ∙ (charged-becomes s c k ∙ ap (λ (x : Answer). charged s + energy-closed x) (sym (answer-accepted s c e)))
-    | inr r ↦ ap charged (after-refused s c (r .0) (r .1)) ∙ (sym (add-zero (charged s)) ∙ ap (λ (x : Answer). charged s + energy-closed x) (sym (answer-refused s c (r .0) (r .1)))) ]
+      | inl e ↦ ap charged (after-accepted s c e) ∙ (charged-becomes s c k ∙ ap (λ (x : Answer). charged s + energy-closed x) (sym (answer-accepted s c e)))
+      | inr r ↦ ap charged (after-refused s c (r .0) (r .1)) ∙ (sym (add-zero (charged s)) ∙ ap (λ (x : Answer). charged s + energy-closed x) (sym (answer-refused s c (r .0) (r .1))))
+    ]
 
 -- a new book
 pub charged-new : (n : ℕ) → charged (new n) ≡ 0

@@ -2,7 +2,7 @@
 -- A processor stands in a call as its list of steps, and the lent buffer of plan as what it holds.
 use mathlib.Core.Bool.{Bool, true, false, not, _||_}
 use mathlib.Core.List.{List, [], _∷_, _++_}
-use Prim.Native.Nat.{ℕ, zero, suc, _+_, _-_}
+use Prim.Native.Nat.{ℕ, _+_, _-_}
 use lib.Dec.{ltb, eqb}
 use lib.ListN.{length, take, drop, getD, replicate}
 use Rattle.std.specs.declared.option.Option.{Option}
@@ -10,10 +10,11 @@ use Rattle.std.specs.declared.option.Option.the-variants.{Some, None}
 use Rattle.std.specs.Options.{isSome}
 use Rattle.model.specs.Sums.{sum-to}
 use Rattle.model.specs.Plan.{plan}
-use Rattle.model.specs.Charges.{charge, cost, price}
+use Rattle.model.specs.Charges.{cost, price}
 use Rattle.model.specs.declared.job.Job.{Job}
 use Rattle.model.specs.declared.segment.Segment.{Segment}
 use Rattle.model.specs.declared.step.Step.{Step}
+use Rattle.charges.specs.Owing.{settled}
 use Rattle.queue.specs.Queues.{push-lines}
 use Rattle.planner.specs.Planning.{want-line, plan-lines}
 use Rattle.refusal.specs.Refusals.{Told, Line, line, first-of}
@@ -97,11 +98,7 @@ holding s j = record { number = s .number; jobs = s .jobs; held = Some j; charge
 
 -- the charges after a close: each account pays its ticks of the plan
 unfoldable pub raised : List Step → List Job → List ℕ → List ℕ
-raised steps jobs charges = from 65
-  where
-    from : ℕ → List ℕ
-    from zero = []
-    from (suc a) = from a ++ ((getD charges a 0 + charge steps jobs (plan steps jobs) a) ∷ [])
+raised steps jobs charges = settled steps jobs (plan steps jobs) charges 65
 
 -- the job of the open hold put last, where there is one
 abbrev pub joined-by : List Job → Option Job → List Job

@@ -1,2 +1,4 @@
 pub mod Calls
 pub mod Sound
+pub mod Waits
+pub mod Books

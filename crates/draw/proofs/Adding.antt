@@ -7,7 +7,7 @@ use native.Mathlib.Nat.{add-assoc}
 use native.Mathlib.Omega.{arith}
 use lib.Dec.{eqb}
 use lib.ListN.{length, take, getD, set}
-use Rattle.std.proofs.shelf.Lists.{append-assoc, append-nil, take-more, take-more-set, take-set}
+use Rattle.std.proofs.shelf.Lists.{append-assoc, append-nil, take-more, take-more-set}
 use Rattle.std.proofs.shelf.Tests.{cond-true, cond-false, cases-eq, eq-eqb, ne-eqb}
 use Rattle.model.specs.Sums.{sum-of}
 use Rattle.model.specs.Plan.{segment, attach, joined, ticks-of}
@@ -144,12 +144,29 @@ ticks-added-some (n ∷ []) s e =
     ]
 ticks-added-some (n ∷ (m ∷ ms)) s e = let a = ticks-added-some (m ∷ ms) s e in omega arith
 
-pub ticks-added : (ns : List Segment) (s : Segment) → ticks-of (added ns s) ≡ ticks-of ns + s .ticks
+ticks-added : (ns : List Segment) (s : Segment) → ticks-of (added ns s) ≡ ticks-of ns + s .ticks
 ticks-added ns s =
     elim (cases-eq (s .ticks) 0) [
       | inl e ↦ let a = ap ticks-of (added-none ns s e) in omega arith
       | inr e ↦ ticks-added-some ns s e
     ]
+
+-- a list that has come of adding
+pub ticks-put : (xs ns : List Segment) (s : Segment) → xs ≡ added ns s → ticks-of xs ≡ ticks-of ns + s .ticks
+ticks-put xs ns s e = ap ticks-of e ∙ ticks-added ns s
+
+pub two-put : (xs ys ns : List Segment) (s t : Segment) → xs ≡ added ys t → ys ≡ added ns s → xs ≡ gathered ns (s ∷ (t ∷ []))
+unfolding gathered
+two-put xs ys ns s t e f = e ∙ ap (λ (x : List Segment). added x t) f
+
+ticks-gathered : (ns ss : List Segment) → ticks-of (gathered ns ss) ≡ ticks-of ns + ticks-of ss
+unfolding gathered ticks-of sum-of
+ticks-gathered ns [] = omega arith
+ticks-gathered ns (s ∷ ss) = let a = ticks-gathered (added ns s) ss in let b = ticks-added ns s in omega arith
+
+-- as a list that has come of gathering
+pub ticks-drawn : (xs ns ss : List Segment) → xs ≡ gathered ns ss → ticks-of xs ≡ ticks-of ns + ticks-of ss
+ticks-drawn xs ns ss e = ap ticks-of e ∙ ticks-gathered ns ss
 
 -- the last of the first `n` segments has no more ticks than all of them
 ticks-last : (ys : List Segment) (s : Segment) → s .ticks ≤ ticks-of (ys ++ (s ∷ []))

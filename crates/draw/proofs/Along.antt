@@ -3,15 +3,15 @@
 -- and a corner after a cut is no sooner than the next cut.
 use mathlib.Core.List.{List, [], _∷_, _++_}
 use mathlib.Core.Logic.{inl, inr}
-use mathlib.Core.Path.{_≡_, refl, sym, _∙_, ap, ap₂, subst}
-use Prim.Native.Nat.{ℕ, zero, suc, _+_, _-_, _≤_, _<_, max}
+use mathlib.Core.Path.{_≡_, refl, sym, _∙_, ap, subst}
+use Prim.Native.Nat.{ℕ, zero, suc, _+_, _-_, _≤_, _<_}
 use native.Mathlib.Numerals.{add-one}
 use native.Mathlib.Omega.{arith}
 use lib.ListN.{length, getD, drop}
-use Rattle.std.proofs.shelf.Lists.{drop-more, drop-all, getD-map, length-map}
+use Rattle.std.proofs.shelf.Lists.{drop-more, getD-map, length-map}
 use Rattle.std.proofs.shelf.Tests.{cases-lt}
 use Rattle.model.specs.Jobs.{Ordered, job-at, span, cuts}
-use Rattle.model.specs.Path.{start, Piece, piece-from, piece-at}
+use Rattle.model.specs.Path.{start, piece-from, piece-at}
 use Rattle.model.specs.Plan.{stretch, stretches}
 use Rattle.model.specs.declared.cut.Cut.{Cut}
 use Rattle.model.specs.declared.job.Job.{Job}
@@ -19,7 +19,7 @@ use Rattle.model.specs.declared.point.Point.{Point}
 use Rattle.model.specs.declared.step.Step.{Step}
 use Rattle.theory.specs.Survey.{cut-of, survey}
 use Rattle.theory.proofs.Law.{Kept}
-use Rattle.theory.proofs.Cuts.{Among, Rises, rises-above, cuts-rooted, cut-in-span, span-cut}
+use Rattle.theory.proofs.Cuts.{Among, Rises, rises-above, cuts-rooted}
 use Rattle.theory.proofs.Drawn.{piece-first, piece-rest}
 use Rattle.draw.specs.Lanes.{begin-at, end-at, piece-no}
 

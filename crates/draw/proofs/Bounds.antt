@@ -1,14 +1,17 @@
 -- Bounds that keep the arithmetic of drawing within 64 bits.
-use mathlib.Core.List.{List}
+use mathlib.Core.List.{List, [], _∷_}
 use mathlib.Core.Logic.{inl, inr}
-use mathlib.Core.Path.{_≡_, ap}
-use Prim.Native.Nat.{ℕ, suc, _+_, _*_, _/_, _≤_, _<_}
-use native.Mathlib.Nat.{mul-le-mul, mul-le-mul-left, mul-le-mul-right, mul-assoc, div-mul-le-self}
+use mathlib.Core.Path.{ap}
+use Prim.Native.Nat.{ℕ, _+_, _*_, _/_, _≤_, _<_}
+use native.Mathlib.Nat.{mul-le-mul, mul-le-mul-left, mul-le-mul-right, div-mul-le-self}
 use native.Mathlib.Omega.{arith}
-use lib.ListN.{length, getD}
+use lib.ListN.{length}
 use Rattle.std.proofs.shelf.Lists.{getD-past}
 use Rattle.std.proofs.shelf.Tests.{cases-lt}
 use Rattle.model.specs.Steps.{no-step, speed-at, power-at, Lawful}
+use Rattle.model.specs.Sums.{sum-of}
+use Rattle.model.specs.Plan.{ticks-of, energy}
+use Rattle.model.specs.declared.segment.Segment.{Segment}
 use Rattle.model.specs.declared.step.Step.{Step}
 
 -- the height times the run
@@ -42,3 +45,12 @@ speed-safe steps lawful i =
       | inl l ↦ lawful .fast i l
       | inr l ↦ let e = ap (λ (x : Step). x .speed) (getD-past steps i no-step l) in omega arith
     ]
+
+-- no tick costs more than the dearest power
+pub energy-safe : (steps : List Step) → Lawful steps → (ss : List Segment) → energy steps ss ≤ 1000000 * ticks-of ss
+unfolding energy ticks-of sum-of
+energy-safe steps lawful [] = omega arith
+energy-safe steps lawful (s ∷ ss) =
+    let a = energy-safe steps lawful ss in
+    let b = mul-le-mul-right (s .ticks) (power-safe steps lawful (s .step)) in
+    omega arith

@@ -1,8 +1,9 @@
 -- The slow step found by climbing: the first step after which the next is faster than the slope.
 use mathlib.Core.List.{List}
 use mathlib.Core.Logic.{inl, inr}
-use mathlib.Core.Path.{_≡_, refl, subst, subst₂}
-use Prim.Native.Nat.{ℕ, suc, _-_, _*_, _≤_, _<_}
+use mathlib.Core.Path.{_≡_, _∙_, ap, subst, subst₂}
+use Prim.Native.Nat.{ℕ, suc, _+_, _-_, _*_, _≤_, _<_}
+use native.Mathlib.Numerals.{add-one}
 use native.Mathlib.Omega.{arith}
 use lib.ListN.{length}
 use Rattle.std.proofs.shelf.Tests.{cases-order, leb-true, leb-false}
@@ -35,3 +36,7 @@ slow-is steps lawful p q n r s er es b low high =
     slow-from steps lawful p q n b
     (λ k l. subst₂ (λ (x y : ℕ). speed-at steps (suc k) * x ≤ y) er es (low k l))
     (λ l. subst₂ (λ (x y : ℕ). y < speed-at steps (suc n) * x) er es (high l))
+
+-- a next step found too fast
+pub faster-next : (steps : List Step) (n v r s : ℕ) → v ≡ speed-at steps (n + 1) → s < v * r → s < speed-at steps (suc n) * r
+faster-next steps n v r s e l = subst (λ (x : ℕ). s < x * r) (e ∙ ap (speed-at steps) (add-one n)) l

@@ -1,15 +1,13 @@
 -- The pieces of a path by number: which one is the piece at a time, and the lane made of it.
-use mathlib.Core.List.{List, [], _∷_}
-use mathlib.Core.Path.{_≡_, refl, sym, _∙_, ap, ap₂, subst}
-use Prim.Native.Nat.{ℕ, zero, suc, _+_, _-_, _≤_, _<_}
+use mathlib.Core.List.{List}
+use mathlib.Core.Path.{_≡_, sym, _∙_, ap, ap₂}
+use Prim.Native.Nat.{ℕ, zero, suc, _+_, _-_, _<_}
 use native.Mathlib.Numerals.{add-one}
 use native.Mathlib.Omega.{arith}
-use lib.ListN.{length, getD}
+use lib.ListN.{getD}
 use Rattle.model.specs.Steps.{speed-at, gap}
-use Rattle.model.specs.Jobs.{span}
-use Rattle.model.specs.Path.{start, Piece, piece-from, piece-at}
+use Rattle.model.specs.Path.{start}
 use Rattle.model.specs.Plan.{slow-step}
-use Rattle.model.specs.declared.job.Job.{Job}
 use Rattle.model.specs.declared.point.Point.{Point}
 use Rattle.model.specs.declared.step.Step.{Step}
 use Rattle.draw.specs.Lanes.{begin-at, end-at, piece-no, lane-at}

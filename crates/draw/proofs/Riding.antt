@@ -3,27 +3,27 @@ use mathlib.Core.Bool.{cond}
 use mathlib.Core.List.{List}
 use mathlib.Core.Logic.{inl, inr}
 use mathlib.Core.Path.{_≡_, refl, sym, _∙_, ap, subst}
-use Prim.Native.Nat.{ℕ, suc, _*_, _≤_, _<_}
+use Prim.Native.Nat.{ℕ, suc, _≤_, _<_}
 use native.Mathlib.Nat.{le-of-mul-le-mul-right}
 use native.Mathlib.Omega.{arith}
 use lib.Dec.{leb}
 use lib.ListN.{length}
 use Rattle.std.proofs.shelf.Tests.{cond-true, cond-false, cases-lt, le-leb, lt-leb}
-use Rattle.model.specs.Steps.{speed-at, gap, Lawful}
+use Rattle.model.specs.Steps.{gap}
 use Rattle.model.specs.Jobs.{total, span, ceiling, cuts}
-use Rattle.model.specs.Path.{run, height-on, Piece, piece-at}
+use Rattle.model.specs.Path.{run, Piece, piece-at}
 use Rattle.model.specs.Plan.{slow-step, ticks-between, fast-ticks, stretch}
 use Rattle.model.specs.declared.job.Job.{Job}
 use Rattle.model.specs.declared.point.Point.{Point}
 use Rattle.model.specs.declared.step.Step.{Step}
 use Rattle.theory.proofs.Law.{Straight}
-use Rattle.theory.proofs.Cuts.{Among, cut-in-span}
+use Rattle.theory.proofs.Cuts.{cut-in-span}
 use Rattle.theory.proofs.Levels.{ceiling-le-total}
 use Rattle.theory.proofs.Tangent.{gap-positive}
 use Rattle.theory.proofs.Slow.{slow-known}
 use Rattle.theory.proofs.Rounds.{height-last, done-grows}
 use Rattle.theory.proofs.Drawn.{Drawable, On, on-piece}
-use Rattle.draw.specs.Lanes.{begin-at, end-at, piece-no, lane-at, line, fast-of, runs-of, Fair}
+use Rattle.draw.specs.Lanes.{begin-at, end-at, piece-no, lane-at, fast-of, runs-of, Fair}
 use Rattle.draw.specs.declared.lane.Lane.{Lane}
 use Rattle.draw.proofs.Along.{onward-at, more-after, piece-at-is, Neighbours}
 use Rattle.draw.proofs.Bounds.{speed-safe}

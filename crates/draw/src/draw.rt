@@ -10,7 +10,7 @@ ghost use Rattle.theory.proofs.Drawn.{Drawable, drawn};
 ghost use Rattle.theory.specs.Survey.{survey};
 use crate::drawing::Drawing;
 use crate::lane::Lane;
-use crate::put::put;
+use crate::put::put_both;
 use model::cut::Cut;
 use model::job::Job;
 use model::point::Point;
@@ -44,12 +44,11 @@ fn stretch<P: Processor>(
         step: lane.slow,
         ticks: ticks - fast,
     };
-    put(processor, slow, drawing, out);
-    let rest = Segment {
+    let quick = Segment {
         step: lane.slow + 1,
         ticks: fast,
     };
-    put(processor, rest, drawing, out);
+    put_both(processor, slow, quick, drawing, out);
 }
 
 // Draws the plan into `out` from the cuts and the corners of the path of these jobs.
@@ -78,7 +77,8 @@ pub fn draw<P: Processor>(
         return drawing;
     }
     let mut lane = Lane::at(processor, corners, 0);
-    for i in 0..cuts.len() - 1 {
+    let last = cuts.len() - 1;
+    for i in 0..last {
         let s = cuts[i].time;
         lane.advance(processor, corners, s);
         stretch(processor, &lane, s, cuts[i + 1].time, &mut drawing, out);

@@ -46,8 +46,9 @@ found : (steps : List Step) (jobs : List Job) (j : ℕ) → Some j ≡ wanted st
 unfolding wanted
 found steps jobs j e =
     elim (cases-bool (want steps jobs)) [
-      inl h ↦ (h, some-same j (wanting steps jobs) (e ∙ cond-true (want steps jobs) (Some (wanting steps jobs)) None h))
-    | inr h ↦ absurd (some-not-none j (e ∙ cond-false (want steps jobs) (Some (wanting steps jobs)) None h)) ]
+      | inl h ↦ (h, some-same j (wanting steps jobs) (e ∙ cond-true (want steps jobs) (Some (wanting steps jobs)) None h))
+      | inr h ↦ absurd (some-not-none j (e ∙ cond-false (want steps jobs) (Some (wanting steps jobs)) None h))
+    ]
 
 pub found-within : (steps : List Step) (jobs : List Job) (j : ℕ) → Some j ≡ wanted steps jobs → j < length jobs
 unfolding want
@@ -63,8 +64,9 @@ pub none-found : (steps : List Step) (jobs : List Job) → None ≡ wanted steps
 unfolding wanted
 none-found steps jobs e =
     elim (cases-bool (want steps jobs)) [
-      inl h ↦ absurd (some-not-none (wanting steps jobs) (sym (e ∙ cond-true (want steps jobs) (Some (wanting steps jobs)) None h)))
-    | inr h ↦ h ]
+      | inl h ↦ absurd (some-not-none (wanting steps jobs) (sym (e ∙ cond-true (want steps jobs) (Some (wanting steps jobs)) None h)))
+      | inr h ↦ h
+    ]
 
 pub none-accepted : (steps : List Step) (jobs : List Job) → want steps jobs ≡ false → None ≡ first-of (want-line steps jobs ∷ [])
 none-accepted steps jobs h = sym (first-pass (want-line steps jobs) [] h)

@@ -14,4 +14,5 @@ worthy steps jobs l o =
       serves = plan-serves steps jobs l o;
       least = plan-is-least steps jobs l o;
       no-way = w .none;
-      some-way = w .some }
+      some-way = w .some;
+    }

@@ -31,12 +31,28 @@ impl Draft {
         if let Some(job) = want_of_speed(processor, jobs) {
             return Err(Refusal::Want { job: job + 1 });
         }
-        let mut cuts = [Cut { time: 0, upper: 0, lower: 0, rises: false, falls: false }; 513];
+        let mut cuts = [Cut {
+            time: 0,
+            upper: 0,
+            lower: 0,
+            rises: false,
+            falls: false,
+        }; 513];
         let n = survey(jobs, &mut cuts);
         let corners = sweep(&cuts[0..n]);
         let mut segments = [Segment { step: 0, ticks: 0 }; 1024];
-        let drawing = draw(processor, jobs, &cuts[0..n], corners.points(), &mut segments);
-        Ok(Draft { segments, count: drawing.count, energy: drawing.energy })
+        let drawing = draw(
+            processor,
+            jobs,
+            &cuts[0..n],
+            corners.points(),
+            &mut segments,
+        );
+        Ok(Draft {
+            segments,
+            count: drawing.count,
+            energy: drawing.energy,
+        })
     }
 
     // The segments in order.

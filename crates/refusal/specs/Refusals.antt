@@ -5,7 +5,7 @@ use Prim.Native.Nat.{ℕ}
 use Rattle.refusal.specs.declared.term.Term.{Term}
 use Rattle.refusal.specs.declared.term.Term.the-variants.{Constant, Linear, Cubic}
 use Rattle.refusal.specs.declared.refusal.Refusal.{Refusal}
-use Rattle.refusal.specs.declared.refusal.Refusal.the-variants.{Count, Speed, Power, Gap, Bend, Stride, Coefficient, Full, Times, Work, Account, Order, Want, Room}
+use Rattle.refusal.specs.declared.refusal.Refusal.the-variants.{Count, Speed, Power, Gap, Bend, Stride, Coefficient, Held, Full, Times, Work, Account, Order, Bare, Slip, Want, Price, Room, Limit}
 use Rattle.std.specs.declared.option.Option.{Option}
 use Rattle.std.specs.declared.option.Option.the-variants.{Some, None}
 use Rattle.std.specs.declared.result.Result.{Result}
@@ -34,13 +34,18 @@ told-of (Gap i) = told 4 i
 told-of (Bend i) = told 5 i
 told-of Stride = told 6 0
 told-of (Coefficient t) = told 7 (exponent t)
+told-of Held = told 8 0
 told-of Full = told 9 0
 told-of Times = told 10 0
 told-of Work = told 11 0
 told-of Account = told 12 0
 told-of Order = told 13 0
+told-of Bare = told 14 0
+told-of Slip = told 15 0
 told-of (Want j) = told 16 j
+told-of Price = told 17 0
 told-of (Room n) = told 18 n
+told-of Limit = told 19 0
 
 -- what a call's answer tells: nothing where it was accepted
 abbrev pub outcome : {X : Type 0} → Result X Refusal → Option Told

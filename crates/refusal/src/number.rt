@@ -30,13 +30,18 @@ impl Refusal {
             Refusal::Bend { .. } => 5,
             Refusal::Stride => 6,
             Refusal::Coefficient { .. } => 7,
+            Refusal::Held => 8,
             Refusal::Full => 9,
             Refusal::Times => 10,
             Refusal::Work => 11,
             Refusal::Account => 12,
             Refusal::Order => 13,
+            Refusal::Bare => 14,
+            Refusal::Slip => 15,
             Refusal::Want { .. } => 16,
+            Refusal::Price => 17,
             Refusal::Room { .. } => 18,
+            Refusal::Limit => 19,
         }
     }
 

@@ -20,6 +20,8 @@ pub enum Refusal {
     Stride,
     // a coefficient of a formula is above its limit
     Coefficient { term: Term },
+    // a hold is open
+    Held,
     // 256 jobs stand
     Full,
     // a job's arrival is not below its deadline, or its deadline is above 200,000
@@ -30,8 +32,16 @@ pub enum Refusal {
     Account,
     // a job's arrival or deadline is below that of the last job
     Order,
+    // no job stands
+    Bare,
+    // no hold is open, or the slip is of another book
+    Slip,
     // speed is wanting for the jobs up to this one, counted from 1
     Want { job: usize },
+    // the price of a job is below zero
+    Price,
     // the buffer is shorter than the plan
     Room { segments: usize },
+    // all charges together would pass 4,000,000,000,000,000,000
+    Limit,
 }

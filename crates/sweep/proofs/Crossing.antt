@@ -27,9 +27,9 @@ pub cross-is :
     → u ≡ reached (inner false) (c .falls) (stake-at false c) p lower upper .other
     → l ≡ reached (inner false) (c .falls) (stake-at false c) p lower upper .own
     → cross c p upper lower
-      ≡ (let f = reached (inner false) (c .falls) (stake-at false c) p lower upper in
-        let g = reached (inner true) (c .rises) (stake-at true c) q u l in
-        record { out = f .out ++ g .out; apex = g .apex; own = g .own; other = g .other })
+    ≡ (let f = reached (inner false) (c .falls) (stake-at false c) p lower upper in
+    let g = reached (inner true) (c .rises) (stake-at true c) q u l in
+    record { out = f .out ++ g .out; apex = g .apex; own = g .own; other = g .other })
 unfolding cross reach-at
 cross-is c p upper lower q u l e f h =
     let was = reached (inner false) (c .falls) (stake-at false c) p lower upper in

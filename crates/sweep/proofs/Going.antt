@@ -22,12 +22,13 @@ Going cuts b k out p upper lower =
     × Bent false (getD cuts b no-cut .time) p lower
 
 pub going-start : (cuts : List Cut) (out upper lower : List Point) → 2 ≤ length cuts → out ≡ [] → upper ≡ [] → lower ≡ [] → Going cuts 0 1 out start upper lower
-going-start cuts out upper lower l e f g =
-    (ap (λ (w : List Point). w ++ swept-from start upper lower (getD cuts 0 no-cut) (drop 1 cuts)) e
+going-start cuts out upper lower l e f g = (
+  ap (λ (w : List Point). w ++ swept-from start upper lower (getD cuts 0 no-cut) (drop 1 cuts)) e
       ∙ (ap (λ (w : List Point). swept-from start w lower (getD cuts 0 no-cut) (drop 1 cuts)) f
       ∙ (ap (λ (w : List Point). swept-from start [] w (getD cuts 0 no-cut) (drop 1 cuts)) g ∙ swept-start cuts l)),
-    subst (λ (w : List Point). Bent true (getD cuts 0 no-cut .time) start w) (sym f) (omega arith),
-    subst (λ (w : List Point). Bent false (getD cuts 0 no-cut .time) start w) (sym g) (omega arith))
+  subst (λ (w : List Point). Bent true (getD cuts 0 no-cut .time) start w) (sym f) (omega arith),
+  subst (λ (w : List Point). Bent false (getD cuts 0 no-cut .time) start w) (sym g) (omega arith),
+)
 
 pub going-more :
     (cuts : List Cut) (b k m : ℕ) (out more : List Point) (p q : Point) (upper lower u l : List Point)
@@ -41,8 +42,9 @@ going-more cuts b k m out more p q upper lower u l r n s t (h, x, y) e f g i =
     let c = getD cuts k no-cut in
     let after : getD cuts b no-cut .time < c .time = subst (λ (j : ℕ). getD cuts b no-cut .time < getD cuts j no-cut .time) s (r b (omega arith)) in
     let (bu, bl) = cross-bent c p upper lower (getD cuts b no-cut .time) after x y in
-    subst (λ (j : ℕ). Going cuts j (k + 1) more q u l) (sym t)
-    (swept-more out more p q upper lower u l (getD cuts b no-cut) c (drop (k + 1) cuts) (swept cuts)
-      (ap (λ (w : List Cut). out ++ swept-from p upper lower (getD cuts b no-cut) w) (sym (drop-more cuts k no-cut n)) ∙ h) e f g i,
-    subst₂ (λ (a : Point) (w : List Point). Bent true (c .time) a w) (sym f) (sym g) bu,
-    subst₂ (λ (a : Point) (w : List Point). Bent false (c .time) a w) (sym f) (sym i) bl)
+    subst (λ (j : ℕ). Going cuts j (k + 1) more q u l) (sym t) (
+      swept-more out more p q upper lower u l (getD cuts b no-cut) c (drop (k + 1) cuts) (swept cuts)
+          (ap (λ (w : List Cut). out ++ swept-from p upper lower (getD cuts b no-cut) w) (sym (drop-more cuts k no-cut n)) ∙ h) e f g i,
+      subst₂ (λ (a : Point) (w : List Point). Bent true (c .time) a w) (sym f) (sym g) bu,
+      subst₂ (λ (a : Point) (w : List Point). Bent false (c .time) a w) (sym f) (sym i) bl,
+    )

@@ -35,12 +35,13 @@ pub along-more :
     (in-of : ℕ → ℕ → Bool) (x : Point) (out more : List Point) (p c : Point) (chain cs before : List Point) (all : Passed)
     → Along in-of x out p chain before all → chain ≡ c ∷ cs → true ≡ inward in-of p x c → more ≡ out ++ (c ∷ []) → Along in-of x more c cs before all
 along-more in-of x out more p c chain cs before all (o, a, r) e h m =
-    let s : pass in-of x p chain ≡ record { out = c ∷ pass in-of x c cs .out; apex = pass in-of x c cs .apex; rest = pass in-of x c cs .rest } = ap (λ (w : List Point). pass in-of x p w) e ∙ pass-more in-of x p c cs (sym h) in
-    (ap (λ (w : List Point). w ++ pass in-of x c cs .out) m
-      ∙ (append-assoc out (c ∷ []) (pass in-of x c cs .out)
-      ∙ (sym (ap (λ (w : Passed). out ++ w .out) s) ∙ o)),
-    sym (ap (λ (w : Passed). w .apex) s) ∙ a,
-    sym (ap (λ (w : Passed). w .rest) s) ∙ r)
+    let s : pass in-of x p chain ≡ record { out = c ∷ pass in-of x c cs .out; apex = pass in-of x c cs .apex; rest = pass in-of x c cs .rest } = ap (λ (w : List Point). pass in-of x p w) e ∙ pass-more in-of x p c cs (sym h) in (
+      ap (λ (w : List Point). w ++ pass in-of x c cs .out) m
+          ∙ (append-assoc out (c ∷ []) (pass in-of x c cs .out)
+          ∙ (sym (ap (λ (w : Passed). out ++ w .out) s) ∙ o)),
+      sym (ap (λ (w : Passed). w .apex) s) ∙ a,
+      sym (ap (λ (w : Passed). w .rest) s) ∙ r,
+    )
 
 -- what holds where the loop stops
 abbrev pub Stopped : List Point → Point → List Point → List Point → Passed → Type 0
@@ -49,10 +50,11 @@ Stopped out p chain before all = (p ≡ all .apex) × (chain ≡ all .rest) × (
 at-rest :
     (in-of : ℕ → ℕ → Bool) (x : Point) (out : List Point) (p : Point) (chain before : List Point) (all : Passed)
     → Along in-of x out p chain before all → pass in-of x p chain ≡ record { out = []; apex = p; rest = chain } → Stopped out p chain before all
-at-rest in-of x out p chain before all (o, a, r) s =
-    (sym (ap (λ (w : Passed). w .apex) s) ∙ a,
-    sym (ap (λ (w : Passed). w .rest) s) ∙ r,
-    sym (append-nil out) ∙ (sym (ap (λ (w : Passed). out ++ w .out) s) ∙ o))
+at-rest in-of x out p chain before all (o, a, r) s = (
+  sym (ap (λ (w : Passed). w .apex) s) ∙ a,
+  sym (ap (λ (w : Passed). w .rest) s) ∙ r,
+  sym (append-nil out) ∙ (sym (ap (λ (w : Passed). out ++ w .out) s) ∙ o),
+)
 
 pub along-stop :
     (in-of : ℕ → ℕ → Bool) (x : Point) (out : List Point) (p c : Point) (chain cs before : List Point) (all : Passed)

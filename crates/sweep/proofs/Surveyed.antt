@@ -32,14 +32,14 @@ reach-ceiling jobs t p own other = refl
 crossed :
     (jobs : List Job) (t : ℕ) (p : Point) (upper lower : List Point)
     → cross (cut-of jobs t) p upper lower
-      ≡ (let f = reach false jobs t p lower upper in
-        let g = reach true jobs t (f .apex) (f .other) (f .own) in
-        record { out = f .out ++ g .out; apex = g .apex; own = g .own; other = g .other })
+    ≡ (let f = reach false jobs t p lower upper in
+    let g = reach true jobs t (f .apex) (f .other) (f .own) in
+    record { out = f .out ++ g .out; apex = g .apex; own = g .own; other = g .other })
 unfolding cross
 crossed jobs t p upper lower =
     ap (λ (f : Funnel). let g = reach-at true (cut-of jobs t) (f .apex) (f .other) (f .own) in record { out = f .out ++ g .out; apex = g .apex; own = g .own; other = g .other }) (reach-floor jobs t p lower upper)
     ∙ ap (λ (g : Funnel). record { out = reach false jobs t p lower upper .out ++ g .out; apex = g .apex; own = g .own; other = g .other })
-      (reach-ceiling jobs t (reach false jobs t p lower upper .apex) (reach false jobs t p lower upper .other) (reach false jobs t p lower upper .own))
+    (reach-ceiling jobs t (reach false jobs t p lower upper .apex) (reach false jobs t p lower upper .other) (reach false jobs t p lower upper .own))
 
 -- the end, where the last cut is at the end of the span
 ending : (jobs : List Job) (b : ℕ) → Timely jobs → b ≡ span jobs → stake-at true (cut-of jobs b) ≡ finish jobs

@@ -24,6 +24,7 @@ tighten-alone in-of p (q ∷ qs) x e = by (inward in-of p q x) e
         deep : (b : Bool) → alone (q ∷ cond b (r ∷ tighten in-of r rs x) (x ∷ [])) ≡ true → q ∷ cond b (r ∷ tighten in-of r rs x) (x ∷ []) ≡ x ∷ []
         deep true h = absurd (true≢false (sym h))
         deep false h = absurd (true≢false (sym h))
+
     by : (b : Bool) → alone (cond b (q ∷ tighten in-of q qs x) (x ∷ [])) ≡ true → cond b (q ∷ tighten in-of q qs x) (x ∷ []) ≡ x ∷ []
     by true h = more qs h
     by false h = refl

@@ -26,5 +26,5 @@ tightened up p chain len k x m (n, l, b) w s g =
     take-more-set chain k x (omega arith)
     ∙ (ap (λ (ys : List Point). ys ++ (x ∷ [])) (sym (take-take k len chain w))
     ∙ sym (tighten-take up n p (take len chain) x start k l b (omega arith)
-        (λ i h. subst₂ (λ (a c : Point). inward (inner up) a c x ≡ true) (front p chain len i (omega arith)) (sym (getD-take len chain i start (omega arith))) (s i h))
-        (λ h. subst₂ (λ (a c : Point). inward (inner up) a c x ≡ false) (front p chain len k (omega arith)) (sym (getD-take len chain k start (omega arith))) (g (omega arith)))))
+    (λ i h. subst₂ (λ (a c : Point). inward (inner up) a c x ≡ true) (front p chain len i (omega arith)) (sym (getD-take len chain i start (omega arith))) (s i h))
+    (λ h. subst₂ (λ (a c : Point). inward (inner up) a c x ≡ false) (front p chain len k (omega arith)) (sym (getD-take len chain k start (omega arith))) (g (omega arith)))))

@@ -11,7 +11,13 @@ use model::point::Point;
 
 // From the apex, puts the points of the other chain out as corners as long as the way to `x` would cut across them, and
 // answers the apex after that.
-pub(crate) fn pass<W: Wall>(wall: &W, x: Point, apex: Point, other: &mut Chain, out: &mut Chain) -> Point
+pub(crate) fn pass<W: Wall>(
+    wall: &W,
+    x: Point,
+    apex: Point,
+    other: &mut Chain,
+    out: &mut Chain,
+) -> Point
     requires { ⌜ now out .end + (now other .end - now other .start) ≤ 1025 ⌝ }
     ensures apex { λ r. ⌜ r ≡ pass (inner upper) x apex (view (now (other .entry))) .apex ⌝ }
     ensures other { λ _. ⌜ view (now (other .exit)) ≡ pass (inner upper) x apex (view (now (other .entry))) .rest ⌝ }

@@ -21,7 +21,14 @@ use model::point::Point;
 
 // A wall's point comes in: its chain is tightened, and where it is then alone, the other wall's chain is passed. Answers the
 // apex after that.
-fn take_in<W: Wall>(wall: &W, apex: Point, own: &mut Chain, other: &mut Chain, x: Point, out: &mut Chain) -> Point
+fn take_in<W: Wall>(
+    wall: &W,
+    apex: Point,
+    own: &mut Chain,
+    other: &mut Chain,
+    x: Point,
+    out: &mut Chain,
+) -> Point
     requires room { ⌜ now own .end < 1025 ⌝ }
     requires bent { ⌜ Ready upper apex (view (now own)) x ⌝ }
     requires free { ⌜ now out .end + (now other .end - now other .start) ≤ 1025 ⌝ }
@@ -38,7 +45,15 @@ fn take_in<W: Wall>(wall: &W, apex: Point, own: &mut Chain, other: &mut Chain, x
 }
 
 // A wall that may put the point `x`, and does where `puts` says so. Answers the apex after that.
-fn reach<W: Wall>(wall: &W, puts: bool, apex: Point, own: &mut Chain, other: &mut Chain, x: Point, out: &mut Chain) -> Point
+fn reach<W: Wall>(
+    wall: &W,
+    puts: bool,
+    apex: Point,
+    own: &mut Chain,
+    other: &mut Chain,
+    x: Point,
+    out: &mut Chain,
+) -> Point
     requires room { ⌜ now own .end < 1025 ⌝ }
     requires bent { ⌜ Ready upper apex (view (now own)) x ⌝ }
     requires free { ⌜ now out .end + (now other .end - now other .start) ≤ 1025 ⌝ }
@@ -65,9 +80,15 @@ fn cross(cut: Cut, apex: Point, upper: &mut Chain, lower: &mut Chain, out: &mut 
     ensures out { λ _. ⌜ view (now (out .exit)) ≡ view (now (out .entry)) ++ cross cut apex (view (now (upper .entry))) (view (now (lower .entry))) .out ⌝ }
     ensures places { λ _. ⌜ (now (upper .exit) .end ≤ now (upper .entry) .end + 1) × (now (lower .exit) .end ≤ now (lower .entry) .end + 1) × (now (out .exit) .start ≡ now (out .entry) .start) × (now (out .exit) .end ≡ now (upper .exit) .start + now (lower .exit) .start) ⌝ }
 {
-    let below = Point { time: cut.time, height: cut.lower };
+    let below = Point {
+        time: cut.time,
+        height: cut.lower,
+    };
     let apex = reach(&Floor, cut.falls, apex, lower, upper, below, out);
-    let above = Point { time: cut.time, height: cut.upper };
+    let above = Point {
+        time: cut.time,
+        height: cut.upper,
+    };
     reach(&Ceiling, cut.rises, apex, upper, lower, above, out)
 }
 
@@ -89,6 +110,9 @@ pub fn sweep(cuts: &[Cut]) -> Chain
         apex = cross(cuts[k], apex, &mut upper, &mut lower, &mut out);
     }
     let last = cuts[n - 1];
-    out.put(Point { time: last.time, height: last.upper });
+    out.put(Point {
+        time: last.time,
+        height: last.upper,
+    });
     out
 }

@@ -3,7 +3,7 @@
 -- so their slopes are equal, their slow steps are the same, and the work done by each cut rounds to the same grains.
 use mathlib.Core.Bool.{true, false}
 use mathlib.Core.List.{List, [], _∷_, _++_}
-use mathlib.Core.Logic.{_⊎_, inl, inr}
+use mathlib.Core.Logic.{inl, inr}
 use mathlib.Core.Path.{_≡_, refl, sym, _∙_, ap, ap₂, subst}
 use Prim.Native.Nat.{ℕ, suc, _+_, _-_, _*_, _/_, _≤_, _<_}
 use native.Mathlib.Nat.{mul-comm, mul-assoc, mul-right-comm, add-mul, mul-div-mul-right, le-of-mul-le-mul-right}
@@ -19,7 +19,7 @@ use Rattle.model.specs.declared.point.Point.{Point}
 use Rattle.model.specs.declared.segment.Segment.{Segment}
 use Rattle.model.specs.declared.step.Step.{Step}
 use Rattle.theory.specs.Sweep.{sweep}
-use Rattle.theory.proofs.Law.{Straight, Kept, kept-from-keeps}
+use Rattle.theory.proofs.Law.{Straight, Kept, kept-from-keeps, keeps-from-kept}
 use Rattle.theory.proofs.Cuts.{Among, Rises, rises-above, cuts-rooted, cut-in-span}
 use Rattle.theory.proofs.Unique.{cross, same-heights}
 use Rattle.theory.proofs.Slow.{slow-grows}
@@ -212,3 +212,10 @@ plan-swept steps jobs l o =
 
 pub sweep-drawable : (steps : List Step) (jobs : List Job) → Lawful steps → Ordered jobs → want steps jobs ≡ false → Drawable steps jobs (sweep jobs)
 sweep-drawable steps jobs l o w = drawable steps jobs (sweep jobs) l o w (sweep-keeps jobs o) (sweep-corners jobs o)
+
+-- and so may it from any other list that a plan can be drawn from
+pub drawn-plan : (steps : List Step) (jobs : List Job) (c : List Point) → Drawable steps jobs c → drawn steps jobs c ≡ plan steps jobs
+drawn-plan steps jobs c d =
+    drawn-same steps jobs c (path jobs) (d .lawful) (d .ordered) (unfold keeps in keeps-from-kept jobs start c (d .kept)) (path-keeps jobs (d .ordered)) (d .at-cuts)
+    (at-cuts-from (cuts jobs) (path jobs) (path-corners jobs))
+    ∙ sym (plan-drawn steps jobs)

@@ -1,9 +1,8 @@
 use native.Mathlib.Numerals.{add-one}
 use native.Mathlib.Omega.{arith}
 use mathlib.Core.Bool.{false}
-use mathlib.Core.List.{[]}
-use mathlib.Core.Path.{_≡_, refl, sym, _∙_, ap}
-use Prim.Native.Nat.{_+_, _≤_, _<_}
+use mathlib.Core.Path.{sym, ap}
+use Prim.Native.Nat.{_+_}
 use lib.ListN.{length, getD}
 use Rattle.model.specs.Sums.{sum-of}
 use Rattle.model.specs.Plan.{energy}
@@ -26,8 +25,8 @@ pub at-lane-requires : need.at-lane-requires
 at-lane-requires g c κs =
     corners-there (g .P·Processor .steps (c .args .processor .now)) (c .args .jobs .now) (c .args .corners .now) (c .pre .drawable) (c .pre .short) (c .pre .light) (omega (arith, c .if-jobs-eq0 .left))
 
-pub sub-i·end : need.sub-i·end
-sub-i·end g c =
+pub sub-last : need.sub-last
+sub-last g c =
     let a = cuts-begin (c .args .jobs .now) .1 in
     let b = survey-length (c .args .jobs .now) in
     let e = ap (λ xs. length xs) (c .pre .cuts) in

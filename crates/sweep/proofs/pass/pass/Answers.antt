@@ -18,8 +18,8 @@ returns-then-not-inward g c =
     let i = c .loop-other .inv in
     let v = part-more (o .points) (o .start) (o .end) (c .loop-other-test .taken) (omega (arith, o .full, o .within)) in
     let s =
-      along-stop (inner (g .W·Wall .upper)) (c .args .x) (view (c .loop-other .out)) (c .loop-other .apex) (getD (o .points) (o .start) start) (view o) (part (o .start + 1) (o .end) (o .points))
-      (view (c .args .out .now)) (pass (inner (g .W·Wall .upper)) (c .args .x) (c .args .apex) (view (c .args .other .now))) (i .0) v (c .if-not-inward .ensures tt)
+    along-stop (inner (g .W·Wall .upper)) (c .args .x) (view (c .loop-other .out)) (c .loop-other .apex) (getD (o .points) (o .start) start) (view o) (part (o .start + 1) (o .end) (o .points))
+    (view (c .args .out .now)) (pass (inner (g .W·Wall .upper)) (c .args .x) (c .args .apex) (view (c .args .other .now))) (i .0) v (c .if-not-inward .ensures tt)
     in
     record { apex = s .0; other = s .1; out = s .2; places = (i .1, i .2, i .3) }
 
@@ -27,20 +27,21 @@ pub loop-other-again : need.loop-other-again
 loop-other-again g c =
     let o = c .loop-other .other in
     let i = c .loop-other .inv in
-    let v = part-more (o .points) (o .start) (o .end) (c .loop-other-test .taken) (omega (arith, o .full, o .within)) in
-    (along-more (inner (g .W·Wall .upper)) (c .args .x) (view (c .loop-other .out)) (view (c .put .last .self)) (c .loop-other .apex) (getD (o .points) (o .start) start) (view o)
-      (part (o .start + 1) (o .end) (o .points)) (view (c .args .out .now)) (pass (inner (g .W·Wall .upper)) (c .args .x) (c .args .apex) (view (c .args .other .now)))
-      (i .0) v (c .if-not-inward .ensures tt) (c .put .ensures .points),
-    i .1,
-    c .put .ensures .places .0 ∙ i .2,
-    omega (arith, c .put .ensures .places .1, i .3))
+    let v = part-more (o .points) (o .start) (o .end) (c .loop-other-test .taken) (omega (arith, o .full, o .within)) in (
+      along-more (inner (g .W·Wall .upper)) (c .args .x) (view (c .loop-other .out)) (view (c .put .last .self)) (c .loop-other .apex) (getD (o .points) (o .start) start) (view o)
+          (part (o .start + 1) (o .end) (o .points)) (view (c .args .out .now)) (pass (inner (g .W·Wall .upper)) (c .args .x) (c .args .apex) (view (c .args .other .now)))
+          (i .0) v (c .if-not-inward .ensures tt) (c .put .ensures .points),
+      i .1,
+      c .put .ensures .places .0 ∙ i .2,
+      omega (arith, c .put .ensures .places .1, i .3),
+    )
 
 pub returns : need.returns
 returns g c =
     let o = c .loop-other .other in
     let i = c .loop-other .inv in
     let s =
-      along-end (inner (g .W·Wall .upper)) (c .args .x) (view (c .loop-other .out)) (c .loop-other .apex) (view o)
-      (view (c .args .out .now)) (pass (inner (g .W·Wall .upper)) (c .args .x) (c .args .apex) (view (c .args .other .now))) (i .0) (part-none (o .points) (o .start) (o .end) (c .loop-other-test .left))
+    along-end (inner (g .W·Wall .upper)) (c .args .x) (view (c .loop-other .out)) (c .loop-other .apex) (view o)
+    (view (c .args .out .now)) (pass (inner (g .W·Wall .upper)) (c .args .x) (c .args .apex) (view (c .args .other .now))) (i .0) (part-none (o .points) (o .start) (o .end) (c .loop-other-test .left))
     in
     record { apex = s .0; other = s .1; out = s .2; places = (i .1, i .2, i .3) }

@@ -19,9 +19,10 @@ reach-requires c κs =
     record {
       room = omega (arith, p, c .pre .room);
       bent =
-        subst₂ (λ (q : Point) (w : List Point). Ready true q w (stake-at true (c .args .cut))) (sym (f .apex)) (sym (f .other))
-        (still-ready (c .args .cut) (c .args .apex) (view (c .args .upper .now)) (view (c .args .lower .now)) (c .pre .bent .0) (c .pre .bent .1));
-      free = omega (arith, p, u, c .pre .room, c .pre .tally) }
+          subst₂ (λ (q : Point) (w : List Point). Ready true q w (stake-at true (c .args .cut))) (sym (f .apex)) (sym (f .other))
+          (still-ready (c .args .cut) (c .args .apex) (view (c .args .upper .now)) (view (c .args .lower .now)) (c .pre .bent .0) (c .pre .bent .1));
+      free = omega (arith, p, u, c .pre .room, c .pre .tally);
+    }
 
 pub returns : need.returns
 returns c =
@@ -33,9 +34,10 @@ returns c =
       upper = g .own ∙ sym (ap (λ (w : Funnel). w .own) e);
       lower = g .other ∙ sym (ap (λ (w : Funnel). w .other) e);
       out =
-        g .out
-        ∙ (ap (λ (w : List Point). w ++ reached (inner true) (c .args .cut .rises) (stake-at true (c .args .cut)) (c .reach-apex .result) (view (c .reach-apex .last .other)) (view (c .reach-apex .last .own)) .out) (f .out)
-        ∙ (append-assoc (view (c .args .out .now)) (reached (inner false) (c .args .cut .falls) (stake-at false (c .args .cut)) (c .args .apex) (view (c .args .lower .now)) (view (c .args .upper .now)) .out)
-            (reached (inner true) (c .args .cut .rises) (stake-at true (c .args .cut)) (c .reach-apex .result) (view (c .reach-apex .last .other)) (view (c .reach-apex .last .own)) .out)
-        ∙ sym (ap (λ (w : Funnel). view (c .args .out .now) ++ w .out) e)));
-      places = (omega (arith, f .places, g .places), omega (arith, f .places, g .places), g .places .3 ∙ f .places .3, omega (arith, f .places, g .places, c .pre .tally)) }
+          g .out
+          ∙ (ap (λ (w : List Point). w ++ reached (inner true) (c .args .cut .rises) (stake-at true (c .args .cut)) (c .reach-apex .result) (view (c .reach-apex .last .other)) (view (c .reach-apex .last .own)) .out) (f .out)
+          ∙ (append-assoc (view (c .args .out .now)) (reached (inner false) (c .args .cut .falls) (stake-at false (c .args .cut)) (c .args .apex) (view (c .args .lower .now)) (view (c .args .upper .now)) .out)
+          (reached (inner true) (c .args .cut .rises) (stake-at true (c .args .cut)) (c .reach-apex .result) (view (c .reach-apex .last .other)) (view (c .reach-apex .last .own)) .out)
+          ∙ sym (ap (λ (w : Funnel). view (c .args .out .now) ++ w .out) e)));
+      places = (omega (arith, f .places, g .places), omega (arith, f .places, g .places), g .places .3 ∙ f .places .3, omega (arith, f .places, g .places, c .pre .tally));
+    }

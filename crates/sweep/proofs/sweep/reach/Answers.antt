@@ -17,7 +17,8 @@ returns-then-puts g c =
       own = t .own ∙ sym (ap (λ (w : Funnel). w .own) f);
       other = t .other ∙ sym (ap (λ (w : Funnel). w .other) f);
       out = t .out ∙ sym (ap (λ (w : Funnel). view (c .args .out .now) ++ w .out) f);
-      places = t .places }
+      places = t .places;
+    }
 
 pub returns : need.returns
 returns g c =
@@ -27,4 +28,5 @@ returns g c =
       own = sym (ap (λ (w : Funnel). w .own) f);
       other = sym (ap (λ (w : Funnel). w .other) f);
       out = sym (append-nil (view (c .args .out .now))) ∙ sym (ap (λ (w : Funnel). view (c .args .out .now) ++ w .out) f);
-      places = (refl, omega arith, refl, refl, refl) }
+      places = (refl, omega arith, refl, refl, refl);
+    }

@@ -17,18 +17,24 @@ pub loop-k-holds : need.loop-k-holds
 loop-k-holds c =
     let o = c .new-out .ensures in
     let u = c .new-upper .ensures in
-    let l = c .new-lower .ensures in
-    (going-start (c .args .cuts .now) (view (c .new-out .result)) (view (c .new-upper .result)) (view (c .new-lower .result)) (omega arith) (o .points) (u .points) (l .points),
-    omega (arith, u .places), omega (arith, l .places), omega (arith, o .places, u .places, l .places))
+    let l = c .new-lower .ensures in (
+      going-start (c .args .cuts .now) (view (c .new-out .result)) (view (c .new-upper .result)) (view (c .new-lower .result)) (omega arith) (o .points) (u .points) (l .points),
+      omega (arith, u .places),
+      omega (arith, l .places),
+      omega (arith, o .places, u .places, l .places),
+    )
 
 pub loop-k-again : need.loop-k-again
 loop-k-again c =
     let i = c .loop-k .inv in
     let e = c .cross-apex .ensures in
-    let k = c .loop-k .k in
-    (going-more (c .args .cuts .now) (k - 1) k (k + 1 - 1) (view (c .loop-k .out)) (view (c .cross-apex .last .out)) (c .loop-k .apex) (c .cross-apex .result) (view (c .loop-k .upper)) (view (c .loop-k .lower))
-      (view (c .cross-apex .last .upper)) (view (c .cross-apex .last .lower)) (c .pre .rising) (c .loop-k-test .taken) (omega (arith, c .loop-k .kept)) (omega arith) (i .0) (e .out) (e .apex) (e .upper) (e .lower),
-    omega (arith, c .loop-k .kept, i .1, e .places), omega (arith, c .loop-k .kept, i .2, e .places), e .places .3)
+    let k = c .loop-k .k in (
+      going-more (c .args .cuts .now) (k - 1) k (k + 1 - 1) (view (c .loop-k .out)) (view (c .cross-apex .last .out)) (c .loop-k .apex) (c .cross-apex .result) (view (c .loop-k .upper)) (view (c .loop-k .lower))
+          (view (c .cross-apex .last .upper)) (view (c .cross-apex .last .lower)) (c .pre .rising) (c .loop-k-test .taken) (omega (arith, c .loop-k .kept)) (omega arith) (i .0) (e .out) (e .apex) (e .upper) (e .lower),
+      omega (arith, c .loop-k .kept, i .1, e .places),
+      omega (arith, c .loop-k .kept, i .2, e .places),
+      e .places .3,
+    )
 
 pub returns : need.returns
 returns c =

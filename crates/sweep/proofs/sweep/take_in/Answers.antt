@@ -18,7 +18,8 @@ returns-then-admit g c =
       own = c .admit .ensures .points ∙ sym (ap (λ (w : Funnel). w .own) f);
       other = c .pass .ensures .other ∙ sym (ap (λ (w : Funnel). w .other) f);
       out = c .pass .ensures .out ∙ sym (ap (λ (w : Funnel). view (c .args .out .now) ++ w .out) f);
-      places = (a .0, a .1, p .0, p .1, p .2) }
+      places = (a .0, a .1, p .0, p .1, p .2);
+    }
 
 pub returns : need.returns
 returns g c =
@@ -29,4 +30,5 @@ returns g c =
       own = c .admit .ensures .points ∙ sym (ap (λ (w : Funnel). w .own) f);
       other = sym (ap (λ (w : Funnel). w .other) f);
       out = sym (append-nil (view (c .args .out .now))) ∙ sym (ap (λ (w : Funnel). view (c .args .out .now) ++ w .out) f);
-      places = (a .0, a .1, refl, refl, refl) }
+      places = (a .0, a .1, refl, refl, refl);
+    }

@@ -35,17 +35,19 @@ returns-in-Some g c =
     let p = c .args .processor .now in
     record {
       answer =
-        found-refused (g .P·Processor .steps p) (c .jobs-jobs .result .now) (c .in-Some .job) (c .in-Some .ensures tt)
-        ∙ ap (λ (xs : List Job). first-of (want-line (g .P·Processor .steps p) xs ∷ [])) (c .jobs-jobs .ensures);
+          found-refused (g .P·Processor .steps p) (c .jobs-jobs .result .now) (c .in-Some .job) (c .in-Some .ensures tt)
+          ∙ ap (λ (xs : List Job). first-of (want-line (g .P·Processor .steps p) xs ∷ [])) (c .jobs-jobs .ensures);
       made = tt;
-      worth = worthy (g .P·Processor .steps p) _ (g .P·Processor·met .lawful p) (ordered-from _ (q .order)) }
+      worth = worthy (g .P·Processor .steps p) _ (g .P·Processor·met .lawful p) (ordered-from _ (q .order));
+    }
 
 pub sweep-corners-requires : need.sweep-corners-requires
 sweep-corners-requires g c κs =
     let e = lent-cuts (c .jobs-jobs .result .now) (c .survey-n .last .out) (c .survey-n .result) (c .survey-n .ensures .cuts) in
     record {
       few = lent-few (c .survey-n .last .out) (c .survey-n .result) (c .survey-n .ensures .most);
-      rising = lent-rising (c .jobs-jobs .result .now) _ e }
+      rising = lent-rising (c .jobs-jobs .result .now) _ e;
+    }
 
 -- the corners lent on to the drawing
 corners-of :
@@ -68,7 +70,8 @@ draw-drawing-requires g c κs =
       short = span-limit jobs st;
       light = total-limit jobs st (omega (arith, n, q .few, q .jobs .ok .0));
       few = lent-few (c .survey-n .last .out) (c .survey-n .result) (c .survey-n .ensures .most);
-      room = search needs }
+      room = search needs;
+    }
 
 pub returns : need.returns
 returns g c =
@@ -80,9 +83,11 @@ returns g c =
     let k = corners-of jobs _ (c .survey-n .last .out) (c .survey-n .result) (c .points .result .now) (c .jobs-jobs .ensures) (q .order) (c .survey-n .ensures .cuts) (c .points .ensures ∙ c .sweep-corners .ensures) in
     record {
       answer = none-accepted (g .P·Processor .steps p) jobs w ∙ ap (λ (xs : List Job). first-of (want-line (g .P·Processor .steps p) xs ∷ [])) (c .jobs-jobs .ensures);
-      made =
-        (drawn-plan (g .P·Processor .steps p) jobs (c .points .result .now) _ (g .P·Processor·met .lawful p) (ordered-from jobs st) k (c .draw-drawing .ensures .plan)
-          ∙ ap (λ (xs : List Job). plan (g .P·Processor .steps p) xs) (c .jobs-jobs .ensures),
+      made = (
+        drawn-plan (g .P·Processor .steps p) jobs (c .points .result .now) _ (g .P·Processor·met .lawful p) (ordered-from jobs st) k (c .draw-drawing .ensures .plan)
+            ∙ ap (λ (xs : List Job). plan (g .P·Processor .steps p) xs) (c .jobs-jobs .ensures),
         drawn-cost (g .P·Processor .steps p) jobs (c .points .result .now) _ (g .P·Processor·met .lawful p) (ordered-from jobs st) k (c .draw-drawing .ensures .spent)
-          ∙ ap (λ (xs : List Job). cost (g .P·Processor .steps p) xs) (c .jobs-jobs .ensures));
-      worth = worthy (g .P·Processor .steps p) _ (g .P·Processor·met .lawful p) (ordered-from _ (q .order)) }
+            ∙ ap (λ (xs : List Job). cost (g .P·Processor .steps p) xs) (c .jobs-jobs .ensures),
+      );
+      worth = worthy (g .P·Processor .steps p) _ (g .P·Processor·met .lawful p) (ordered-from _ (q .order));
+    }

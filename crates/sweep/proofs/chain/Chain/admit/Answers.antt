@@ -21,16 +21,18 @@ tighten-n-requires g c κs =
     let n = lent-length (s .points) (s .start) (1025 - s .start) (omega (arith, c .pre .room)) in
     record {
       room = omega (arith, c .pre .room);
-      bent = subst (λ (ys : List Point). Ready (g .W·Wall .upper) (c .args .apex) ys (c .args .x)) (sym (lent-front (s .points) (s .start) (s .end) (1025 - s .start) (omega (arith, c .pre .room)))) (c .pre .bent) }
+      bent = subst (λ (ys : List Point). Ready (g .W·Wall .upper) (c .args .apex) ys (c .args .x)) (sym (lent-front (s .points) (s .start) (s .end) (1025 - s .start) (omega (arith, c .pre .room)))) (c .pre .bent);
+    }
 
 pub ghost-self : need.ghost-self
 ghost-self g c =
     let s = c .args .self .now in
     let f = s .full in
     let w = s .forward in
-    let m = c .tighten-n .ensures .few in
-    (same-len-mid (s .start) (1025 - s .start) (s .points) (c .tighten-n .last .chain) (c .tighten-n .kept .chain) ∙ f,
-    (omega arith, (omega (arith, c .pre .room), tt)))
+    let m = c .tighten-n .ensures .few in (
+      same-len-mid (s .start) (1025 - s .start) (s .points) (c .tighten-n .last .chain) (c .tighten-n .kept .chain) ∙ f,
+      (omega arith, (omega (arith, c .pre .room), tt)),
+    )
 
 pub returns : need.returns
 returns g c =
@@ -46,5 +48,6 @@ returns g c =
       points = lent-back (s .points) (c .tighten-n .last .chain) (s .start) (1025 - s .start) (c .tighten-n .result) (omega (arith, c .pre .room)) (omega (arith, q, m, c .pre .room)) ∙ e;
       places = (refl, omega (arith, m));
       single =
-        alone-one (tighten (inner (g .W·Wall .upper)) (c .args .apex) (part (s .start) (s .end) (s .points)) (c .args .x)) (c .tighten-n .result)
-        (ap (λ (ys : List Point). length ys) (sym e) ∙ length-take-le (c .tighten-n .result) (c .tighten-n .last .chain) (omega (arith, q, m, c .pre .room))) }
+          alone-one (tighten (inner (g .W·Wall .upper)) (c .args .apex) (part (s .start) (s .end) (s .points)) (c .args .x)) (c .tighten-n .result)
+          (ap (λ (ys : List Point). length ys) (sym e) ∙ length-take-le (c .tighten-n .result) (c .tighten-n .last .chain) (omega (arith, q, m, c .pre .room)));
+    }
