@@ -1,5 +1,5 @@
 // Holding a job at a price, and spending the slip.
-ghost use mathlib.Core.Bool.{false};
+ghost use mathlib.Core.Bool.{true, false};
 ghost use mathlib.Core.List.{[], _∷_, _++_};
 ghost use mathlib.Core.Path.{_≡_};
 ghost use Rattle.book.specs.Books.{state, said-price, said-back, handed-back, Sound-with};
@@ -11,7 +11,7 @@ ghost use Rattle.queue.specs.Meaning.{jobs-of};
 ghost use Rattle.queue.specs.Queues.{push-lines};
 ghost use Rattle.refusal.specs.Refusals.{outcome, first-of};
 ghost use Rattle.std.specs.Options.{isSome};
-ghost use Rattle.std.specs.Results.{Cases};
+ghost use Rattle.std.specs.Results.{Cases, isOk};
 use crate::book::Book;
 use crate::slip::Slip;
 use model::job::Job;
@@ -37,6 +37,7 @@ impl Book {
     pub fn hold<P: Processor>(&mut self, job: Job, processor: &P) -> Result<Slip, Refusal>
         ensures answer { λ r. ⌜ said-price r ≡ answer (state (now (self .entry))) (holds job (P·Processor .steps (now (processor .entry)))) ⌝ }
         ensures state { λ _. ⌜ state (now (self .exit)) ≡ after (state (now (self .entry))) (holds job (P·Processor .steps (now (processor .entry)))) ⌝ }
+        ensures opens { λ r. ⌜ Cases r (λ s. (s .book ≡ state (now (self .exit)) .number) × (isSome (state (now (self .exit)) .held) ≡ true)) (λ _. Unit {0}) ⌝ }
         ensures sound { λ _. ⌜ Sound-with (state (now (self .entry))) (state (now (self .exit))) (holds job (P·Processor .steps (now (processor .entry)))) ⌝ }
     {
         if self.held.is_some() {
@@ -59,6 +60,7 @@ impl Book {
         ensures answer { λ r. ⌜ said-back r ≡ answer (state (now (self .entry))) (takes (slip .book)) ⌝ }
         ensures back { λ r. ⌜ handed-back slip r ⌝ }
         ensures state { λ _. ⌜ state (now (self .exit)) ≡ after (state (now (self .entry))) (takes (slip .book)) ⌝ }
+        ensures spends { λ r. ⌜ (isSome (state (now (self .entry)) .held) ≡ true → slip .book ≡ state (now (self .entry)) .number → isOk r ≡ true) ⌝ }
         ensures sound { λ _. ⌜ Sound-with (state (now (self .entry))) (state (now (self .exit))) (takes (slip .book)) ⌝ }
     {
         if slip.book != self.number {
@@ -80,6 +82,7 @@ impl Book {
         ensures answer { λ r. ⌜ said-back r ≡ answer (state (now (self .entry))) (releases (slip .book)) ⌝ }
         ensures back { λ r. ⌜ handed-back slip r ⌝ }
         ensures state { λ _. ⌜ state (now (self .exit)) ≡ after (state (now (self .entry))) (releases (slip .book)) ⌝ }
+        ensures spends { λ r. ⌜ (isSome (state (now (self .entry)) .held) ≡ true → slip .book ≡ state (now (self .entry)) .number → isOk r ≡ true) ⌝ }
         ensures sound { λ _. ⌜ Sound-with (state (now (self .entry))) (state (now (self .exit))) (releases (slip .book)) ⌝ }
     {
         if slip.book != self.number {

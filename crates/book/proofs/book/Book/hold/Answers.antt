@@ -5,6 +5,7 @@ use mathlib.Core.Path.{_≡_, refl, sym, subst, ap, _∙_}
 use Prim.Native.Nat.{ℕ, _-_, _<_, _≤_}
 use Rattle.std.proofs.shelf.Results.{err-from-errBy}
 use Rattle.std.proofs.shelf.Tests.{not-from-false}
+use Rattle.std.specs.Results.{Cases}
 use Rattle.std.specs.declared.result.Result.{Result}
 use Rattle.std.specs.declared.result.Result.the-variants.{Err}
 use Rattle.std.specs.declared.option.Option.the-variants.{Some}
@@ -28,6 +29,9 @@ use Rattle.book.proofs.book.Book.hold.Needs as need
 said-err : (r : Result Slip Refusal) (y e : Refusal) → r ≡ Err y → y ≡ e → said-price r ≡ refused (told-of e)
 said-err r y e p q = ap said-price p ∙ ap (λ (x : Refusal). refused (told-of x)) q
 
+unopened : (r : Result Slip Refusal) (y : Refusal) → r ≡ Err y → (P : Slip → Type 0) → Cases r P (λ _. Unit {0})
+unopened r y e P = subst (λ (x : Result Slip Refusal). Cases x P (λ _. Unit {0})) (sym e) tt
+
 -- the costs, from the book as it was lent on
 cost-same : (steps : List Level) (s t : State) (n : ℕ) → t ≡ s → n ≡ cost steps (t .jobs) → n ≡ cost steps (s .jobs)
 cost-same steps s t n e f = f ∙ ap (λ (x : State). cost steps (x .jobs)) e
@@ -35,7 +39,7 @@ cost-same steps s t n e f = f ∙ ap (λ (x : State). cost steps (x .jobs)) e
 pub returns-then-is-some : need.returns-then-is-some
 returns-then-is-some g c =
     let p = hold-open (state (c .args .self .now)) (c .args .job) (g .P·Processor .steps (c .args .processor .now)) (g .P·Processor·met .lawful (c .args .processor .now)) (sym (c .if-is-some .ensures tt)) in
-    record { answer = p .answers; state = p .becoming; sound = p .sounds }
+    record { answer = p .answers; state = p .becoming; opens = tt; sound = p .sounds }
 
 pub returns-in-Break-with : need.returns-in-Break-with
 returns-in-Break-with g c =
@@ -48,7 +52,7 @@ returns-in-Break-with g c =
     (said-err (c .from-residual .result) (y .0) e (y .1) (y .2))
     (hold-stopped s (c .args .job) steps (told-of e) (g .P·Processor·met .lawful (c .args .processor .now)) (sym (c .if-is-some .ensures tt)) (c .in-Break-with .ensures tt .answer))
     in
-    record { answer = p .answers; state = p .becoming; sound = p .sounds }
+    record { answer = p .answers; state = p .becoming; opens = unopened (c .from-residual .result) (y .0) (y .1) _; sound = p .sounds }
 
 pub returns-in-Break-without : need.returns-in-Break-without
 returns-in-Break-without g c =
@@ -68,7 +72,7 @@ returns-then-with-without g c =
     step-at s s (state (c .energy-with .last .self)) (holds (c .args .job) steps) _ _ (c .energy-with .ensures .same) refl
     (hold-cheap s (c .args .job) steps (c .in-Continue-with .ensures tt .answer) (g .P·Processor·met .lawful (c .args .processor .now)) (sym (c .if-is-some .ensures tt)) (omega (arith, w, o, c .if-with-without .taken)))
     in
-    record { answer = p .answers; state = p .becoming; sound = p .sounds }
+    record { answer = p .answers; state = p .becoming; opens = tt; sound = p .sounds }
 
 pub returns : need.returns
 returns g c =
@@ -81,4 +85,4 @@ returns g c =
     (hold-taken s (c .args .job) steps (c .in-Continue-with .ensures tt .answer) (c .in-Continue-with .with - c .in-Continue-without .without) (g .P·Processor·met .lawful (c .args .processor .now)) (sym (c .if-is-some .ensures tt))
     (omega (arith, w, o, c .if-with-without .left)) (omega (arith, w, o)))
     in
-    record { answer = p .answers; state = p .becoming; sound = p .sounds }
+    record { answer = p .answers; state = p .becoming; opens = (refl, refl); sound = p .sounds }
