@@ -19,7 +19,8 @@ impl Book {
         if self.held.is_some() {
             return Err(Refusal::Held);
         }
-        let draft = Draft::work_out(&self.queue, processor)?;
+        let mut draft = Draft::blank();
+        draft.work_out(&self.queue, processor)?;
         let energy = draft.energy();
         if energy > 4_000_000_000_000_000_000 - self.charges.total() {
             return Err(Refusal::Limit);

@@ -3,3 +3,5 @@
 mod formulas;
 #[cfg(test)]
 mod ladders;
+#[cfg(test)]
+mod paths;

@@ -25,5 +25,7 @@ pub fn path(queue: &Queue) -> Chain
         falls: false,
     }; 513];
     let n = survey(jobs, &mut cuts);
-    sweep(&cuts[0..n])
+    let mut corners = Chain::new();
+    sweep(&cuts[0..n], &mut corners);
+    corners
 }

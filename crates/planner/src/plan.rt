@@ -34,7 +34,8 @@ pub fn plan<P: Processor>(
     ensures buffer { λ r. ⌜ now (buffer .exit) ≡ cond (isOk r) (plan (P·Processor .steps (now (processor .entry))) (jobs-of (now (queue .entry))) ++ drop (length (plan (P·Processor .steps (now (processor .entry))) (jobs-of (now (queue .entry))))) (now (buffer .entry))) (now (buffer .entry)) ⌝ }
     ensures worth { λ _. ⌜ Worth (P·Processor .steps (now (processor .entry))) (jobs-of (now (queue .entry))) ⌝ }
 {
-    let draft = Draft::work_out(queue, processor)?;
+    let mut draft = Draft::blank();
+    draft.work_out(queue, processor)?;
     let segments = draft.count;
     if buffer.len() < segments {
         return Err(Refusal::Room { segments });
@@ -52,6 +53,7 @@ pub fn least_energy<P: Processor>(queue: &Queue, processor: &P) -> Result<u64, R
     ensures figure { λ r. ⌜ Cases r (λ e. e ≡ cost (P·Processor .steps (now (processor .entry))) (jobs-of (now (queue .entry)))) (λ _. Unit {0}) ⌝ }
     ensures worth { λ _. ⌜ Worth (P·Processor .steps (now (processor .entry))) (jobs-of (now (queue .entry))) ⌝ }
 {
-    let draft = Draft::work_out(queue, processor)?;
+    let mut draft = Draft::blank();
+    draft.work_out(queue, processor)?;
     Ok(draft.energy)
 }

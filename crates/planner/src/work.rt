@@ -17,14 +17,26 @@ use processor::processor::Processor;
 use queue::queue::Queue;
 use refusal::refusal::Refusal;
 use survey::merge::survey;
+use sweep::chain::Chain;
 use sweep::sweep::sweep;
 use want::search::want_of_speed;
 
 impl Draft {
-    // The plan of the queue on a processor, or the job for which speed is wanting.
-    pub fn work_out<P: Processor>(queue: &Queue, processor: &P) -> Result<Draft, Refusal>
+    // A draft without segments.
+    pub fn blank() -> Draft
+        ensures { λ r. ⌜ segments-of r ≡ [] ⌝ }
+    {
+        Draft {
+            segments: [Segment { step: 0, ticks: 0 }; 1024],
+            count: 0,
+            energy: 0,
+        }
+    }
+
+    // Works out the plan of the queue on a processor, or says for which job speed is wanting; the draft is then as it was.
+    pub fn work_out<P: Processor>(&mut self, queue: &Queue, processor: &P) -> Result<(), Refusal>
         ensures answer { λ r. ⌜ outcome r ≡ first-of (want-line (P·Processor .steps (now (processor .entry))) (jobs-of (now (queue .entry))) ∷ []) ⌝ }
-        ensures made { λ r. ⌜ Cases r (λ d. (segments-of d ≡ plan (P·Processor .steps (now (processor .entry))) (jobs-of (now (queue .entry)))) × (d .energy ≡ cost (P·Processor .steps (now (processor .entry))) (jobs-of (now (queue .entry))))) (λ _. Unit {0}) ⌝ }
+        ensures made { λ r. ⌜ Cases r (λ _. (segments-of (now (self .exit)) ≡ plan (P·Processor .steps (now (processor .entry))) (jobs-of (now (queue .entry)))) × (now (self .exit) .energy ≡ cost (P·Processor .steps (now (processor .entry))) (jobs-of (now (queue .entry))))) (λ _. now (self .exit) ≡ now (self .entry)) ⌝ }
         ensures worth { λ _. ⌜ Worth (P·Processor .steps (now (processor .entry))) (jobs-of (now (queue .entry))) ⌝ }
     {
         let jobs = queue.jobs();
@@ -39,20 +51,18 @@ impl Draft {
             falls: false,
         }; 513];
         let n = survey(jobs, &mut cuts);
-        let corners = sweep(&cuts[0..n]);
-        let mut segments = [Segment { step: 0, ticks: 0 }; 1024];
+        let mut corners = Chain::new();
+        sweep(&cuts[0..n], &mut corners);
         let drawing = draw(
             processor,
             jobs,
             &cuts[0..n],
             corners.points(),
-            &mut segments,
+            &mut self.segments,
         );
-        Ok(Draft {
-            segments,
-            count: drawing.count,
-            energy: drawing.energy,
-        })
+        self.count = drawing.count;
+        self.energy = drawing.energy;
+        Ok(())
     }
 
     // The segments in order.

@@ -58,7 +58,12 @@ fn replay_line(
 fn replay(rt: &LibcRuntime, desk: &mut Desk, tally: &mut Tally) -> Result<(), Stop> {
     for line in BufReader::new(rt.stdin()).lines(rt.alloc()) {
         match line {
-            Ok(line) => replay_line(rt, desk, tally, line.as_str())?,
+            Ok(line) => {
+                if let Err(stop) = replay_line(rt, desk, tally, line.as_str()) {
+                    let _ = eprintln!(rt, "stopped at: {line}");
+                    return Err(stop);
+                }
+            }
             Err(why) => return Err(Stop::Fault(why.into())),
         }
     }

@@ -92,27 +92,26 @@ fn cross(cut: Cut, apex: Point, upper: &mut Chain, lower: &mut Chain, out: &mut 
     reach(&Ceiling, cut.rises, apex, upper, lower, above, out)
 }
 
-// The corners of the path that leads between the walls of these cuts.
-pub fn sweep(cuts: &[Cut]) -> Chain
+// Puts the corners of the path that leads between the walls of these cuts into a lent chain without points.
+pub fn sweep(cuts: &[Cut], out: &mut Chain)
     requires few { ⌜ length (now cuts) ≤ 513 ⌝ }
     requires rising { ⌜ Rising (now cuts) ⌝ }
-    ensures { λ r. ⌜ view r ≡ swept (now (cuts .entry)) ⌝ }
+    requires fresh { ⌜ (now out .start ≡ 0) × (now out .end ≡ 0) ⌝ }
+    ensures { λ _. ⌜ view (now (out .exit)) ≡ swept (now (cuts .entry)) ⌝ }
 {
-    let mut out = Chain::new();
     let n = cuts.len();
     if n < 2 {
-        return out;
+        return;
     }
     let mut upper = Chain::new();
     let mut lower = Chain::new();
     let mut apex = Point { time: 0, height: 0 };
     for k in 1..n {
-        apex = cross(cuts[k], apex, &mut upper, &mut lower, &mut out);
+        apex = cross(cuts[k], apex, &mut upper, &mut lower, out);
     }
     let last = cuts[n - 1];
     out.put(Point {
         time: last.time,
         height: last.upper,
     });
-    out
 }

@@ -20,6 +20,7 @@ pub sweep-requires : need.sweep-requires
 sweep-requires c κs = record {
   few = lent-few (c .survey-n .last .out) (c .survey-n .result) (c .survey-n .ensures .most);
   rising = lent-rising (c .jobs-jobs .result .now) _ (lent-cuts (c .jobs-jobs .result .now) (c .survey-n .last .out) (c .survey-n .result) (c .survey-n .ensures .cuts));
+  fresh = c .new-corners .ensures .places;
 }
 
 pub returns : need.returns
@@ -27,8 +28,8 @@ returns c =
     let q = c .args .queue .now in
     let jobs = c .jobs-jobs .result .now in
     let st : standing jobs ≡ true = subst (λ (xs : List Job). standing xs ≡ true) (sym (c .jobs-jobs .ensures)) (q .order) in
-    let e : view (c .sweep .result) ≡ sweep (jobs-of q) =
-    corners-are jobs (take (c .survey-n .result - 0) (c .survey-n .last .out)) (view (c .sweep .result)) (ordered-from jobs st) (lent-cuts jobs (c .survey-n .last .out) (c .survey-n .result) (c .survey-n .ensures .cuts)) (c .sweep .ensures)
+    let e : view (c .sweep .last .out) ≡ sweep (jobs-of q) =
+    corners-are jobs (take (c .survey-n .result - 0) (c .survey-n .last .out)) (view (c .sweep .last .out)) (ordered-from jobs st) (lent-cuts jobs (c .survey-n .last .out) (c .survey-n .result) (c .survey-n .ensures .cuts)) (c .sweep .ensures)
     ∙ ap sweep (c .jobs-jobs .ensures)
     in
     record { corners = e; law = subst (λ (w : List Point). keeps (jobs-of q) w ≡ true) (sym e) (sweep-keeps (jobs-of q) (ordered-from (jobs-of q) (q .order))) }

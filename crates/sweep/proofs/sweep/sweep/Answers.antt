@@ -3,25 +3,29 @@ use mathlib.Core.Path.{_≡_, refl, sym, subst, ap, _∙_}
 use Prim.Native.Nat.{ℕ, suc, _+_, _-_, _<_, _≤_}
 use lib.ListN.{length, getD, drop}
 use Rattle.std.proofs.shelf.Lists.{drop-all}
-use mathlib.Core.List.{_++_}
+use mathlib.Core.List.{List, [], _++_}
 use Rattle.sweep.specs.Swept.{no-cut, swept-from, swept}
-use Rattle.sweep.specs.Views.{view}
+use Rattle.model.specs.declared.point.Point.{Point}
+use Rattle.sweep.specs.Views.{part, view}
+use Rattle.sweep.proofs.Parts.{part-none}
 use Rattle.sweep.proofs.Crossing.{swept-few, swept-end}
 use Rattle.sweep.proofs.Going.{going-start, going-more}
 use Rattle.sweep.proofs.sweep.sweep.Needs as need
 
+empty : (xs : List Point) (i j : ℕ) → (i ≡ 0) × (j ≡ 0) → part i j xs ≡ []
+empty xs i j (e, f) = part-none xs i j (omega arith)
+
 pub returns-then-n-lt2 : need.returns-then-n-lt2
-returns-then-n-lt2 c = c .new-out .ensures .points ∙ swept-few (c .args .cuts .now) (omega arith)
+returns-then-n-lt2 c = empty (c .args .out .now .points) (c .args .out .now .start) (c .args .out .now .end) (c .pre .fresh) ∙ swept-few (c .args .cuts .now) (omega arith)
 
 pub loop-k-holds : need.loop-k-holds
 loop-k-holds c =
-    let o = c .new-out .ensures in
     let u = c .new-upper .ensures in
     let l = c .new-lower .ensures in (
-      going-start (c .args .cuts .now) (view (c .new-out .result)) (view (c .new-upper .result)) (view (c .new-lower .result)) (omega arith) (o .points) (u .points) (l .points),
+      going-start (c .args .cuts .now) (view (c .args .out .now)) (view (c .new-upper .result)) (view (c .new-lower .result)) (omega arith) (empty (c .args .out .now .points) (c .args .out .now .start) (c .args .out .now .end) (c .pre .fresh)) (u .points) (l .points),
       omega (arith, u .places),
       omega (arith, l .places),
-      omega (arith, o .places, u .places, l .places),
+      omega (arith, c .pre .fresh, u .places, l .places),
     )
 
 pub loop-k-again : need.loop-k-again

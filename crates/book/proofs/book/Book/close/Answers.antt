@@ -36,15 +36,15 @@ returns-then-is-some g c =
     let p = close-open (state (c .args .self .now)) (g .P·Processor .steps (c .args .processor .now)) (g .P·Processor·met .lawful (c .args .processor .now)) (sym (c .if-is-some .ensures tt)) in
     record { answer = p .answers; state = p .becoming; sound = p .sounds }
 
-pub returns-in-Break-draft : need.returns-in-Break-draft
-returns-in-Break-draft g c =
+pub returns-in-Break-work-out : need.returns-in-Break-work-out
+returns-in-Break-work-out g c =
     let s = state (c .args .self .now) in
     let steps = g .P·Processor .steps (c .args .processor .now) in
     let y = err-from-errBy (c .from-residual .result) (c .from-residual .ensures .1) in
-    let e = c .in-Break-draft .field-0 .0 in
+    let e = c .in-Break-work-out .field-0 .0 in
     let p =
     step-at s s s (closes steps) (refused (told-of e)) (said-energy (c .from-residual .result)) refl (said-err (c .from-residual .result) (y .0) e (y .1) (y .2))
-    (close-wanting s steps (told-of e) (g .P·Processor·met .lawful (c .args .processor .now)) (sym (c .if-is-some .ensures tt)) (c .in-Break-draft .ensures tt .answer))
+    (close-wanting s steps (told-of e) (g .P·Processor·met .lawful (c .args .processor .now)) (sym (c .if-is-some .ensures tt)) (c .in-Break-work-out .ensures tt .answer))
     in
     record { answer = p .answers; state = p .becoming; sound = p .sounds }
 
@@ -61,10 +61,10 @@ returns-then-energy-total g c =
     let b = c .args .self .now in
     let s = state b in
     let steps = g .P·Processor .steps (c .args .processor .now) in
-    let d = c .in-Continue-draft .ensures tt in
+    let d = c .in-Continue-work-out .ensures tt in
     let p =
     close-limit s steps (g .P·Processor·met .lawful (c .args .processor .now)) (sym (c .if-is-some .ensures tt)) (d .answer)
-    (over (sum-to 65 (λ a. getD (rows-of (b .charges)) a 0)) (c .in-Continue-draft .draft .energy) (c .energy-energy .result) (cost steps (s .jobs)) (c .total .result) (c .total .ensures) (c .energy-energy .ensures) (d .made .1) (c .if-energy-total .taken) (b .within))
+    (over (sum-to 65 (λ a. getD (rows-of (b .charges)) a 0)) (c .work-out .last .self .energy) (c .energy-energy .result) (cost steps (s .jobs)) (c .total .result) (c .total .ensures) (c .energy-energy .ensures) (d .made .1) (c .if-energy-total .taken) (b .within))
     in
     record { answer = p .answers; state = p .becoming; sound = p .sounds }
 
@@ -72,12 +72,12 @@ pub settle-requires : need.settle-requires
 settle-requires g c κs =
     let b = c .args .self .now in
     let steps = g .P·Processor .steps (c .args .processor .now) in
-    let d = c .in-Continue-draft .ensures tt in
+    let d = c .in-Continue-work-out .ensures tt in
     let j = c .jobs .ensures in
     let st : standing (c .jobs .result .now) ≡ true = subst (λ (xs : List Job). standing xs ≡ true) (sym j) (b .queue .order) in
     let e : c .segments .result .now ≡ plan steps (c .jobs .result .now) = c .segments .ensures ∙ (d .made .0 ∙ ap (λ (xs : List Job). plan steps xs) (sym j)) in
     let u : sum-to 65 (λ a. getD (rows-of (b .charges)) a 0) + cost steps (jobs-of (b .queue)) ≤ charge-limit =
-    under (sum-to 65 (λ a. getD (rows-of (b .charges)) a 0)) (c .in-Continue-draft .draft .energy) (c .energy-energy .result) (cost steps (jobs-of (b .queue))) (c .total .result) (c .total .ensures) (c .energy-energy .ensures) (d .made .1) (c .if-energy-total .left) (b .within)
+    under (sum-to 65 (λ a. getD (rows-of (b .charges)) a 0)) (c .work-out .last .self .energy) (c .energy-energy .result) (cost steps (jobs-of (b .queue))) (c .total .result) (c .total .ensures) (c .energy-energy .ensures) (d .made .1) (c .if-energy-total .left) (b .within)
     in
     record {
       order = st;
@@ -94,10 +94,10 @@ pub ghost-self-2 : need.ghost-self-2
 ghost-self-2 g c =
     let b = c .args .self .now in
     let steps = g .P·Processor .steps (c .args .processor .now) in
-    let d = c .in-Continue-draft .ensures tt in
+    let d = c .in-Continue-work-out .ensures tt in
     let r = left-by steps (c .jobs .result .now) (jobs-of (b .queue)) (c .segments .result .now) (rows-of (b .charges)) (rows-of (c .settle .last .charges)) (c .jobs .ensures) (c .segments .ensures ∙ d .made .0) (c .settle .ensures .all) in
     let u : sum-to 65 (λ a. getD (rows-of (b .charges)) a 0) + cost steps (jobs-of (b .queue)) ≤ charge-limit =
-    under (sum-to 65 (λ a. getD (rows-of (b .charges)) a 0)) (c .in-Continue-draft .draft .energy) (c .energy-energy .result) (cost steps (jobs-of (b .queue))) (c .total .result) (c .total .ensures) (c .energy-energy .ensures) (d .made .1) (c .if-energy-total .left) (b .within)
+    under (sum-to 65 (λ a. getD (rows-of (b .charges)) a 0)) (c .work-out .last .self .energy) (c .energy-energy .result) (cost steps (jobs-of (b .queue))) (c .total .result) (c .total .ensures) (c .energy-energy .ensures) (d .made .1) (c .if-energy-total .left) (b .within)
     in (
       none-waits (jobs-of (c .clear .last .self)) (b .held) (sym (c .if-is-some .ensures tt)),
       (still-within steps (jobs-of (b .queue)) (rows-of (b .charges)) (rows-of (c .settle .last .charges)) (b .queue .order) r u, tt),
@@ -109,11 +109,11 @@ returns g c =
     let b = c .args .self .now in
     let s = state b in
     let steps = g .P·Processor .steps (c .args .processor .now) in
-    let d = c .in-Continue-draft .ensures tt in
+    let d = c .in-Continue-work-out .ensures tt in
     let r = left-by steps (c .jobs .result .now) (jobs-of (b .queue)) (c .segments .result .now) (rows-of (b .charges)) (rows-of (c .settle .last .charges)) (c .jobs .ensures) (c .segments .ensures ∙ d .made .0) (c .settle .ensures .all) in
     let p =
     close-done s steps (c .energy-energy .result) (jobs-of (c .clear .last .self)) (rows-of (c .settle .last .charges)) (g .P·Processor·met .lawful (c .args .processor .now)) (sym (c .if-is-some .ensures tt)) (d .answer)
-    (under (sum-to 65 (λ a. getD (rows-of (b .charges)) a 0)) (c .in-Continue-draft .draft .energy) (c .energy-energy .result) (cost steps (s .jobs)) (c .total .result) (c .total .ensures) (c .energy-energy .ensures) (d .made .1) (c .if-energy-total .left) (b .within))
+    (under (sum-to 65 (λ a. getD (rows-of (b .charges)) a 0)) (c .work-out .last .self .energy) (c .energy-energy .result) (cost steps (s .jobs)) (c .total .result) (c .total .ensures) (c .energy-energy .ensures) (d .made .1) (c .if-energy-total .left) (b .within))
     (c .energy-energy .ensures ∙ d .made .1) (c .clear .ensures) r
     in
     record { answer = p .answers; state = p .becoming; sound = p .sounds }

@@ -37,16 +37,17 @@ returns-in-Some g c =
       answer =
           found-refused (g .P·Processor .steps p) (c .jobs-jobs .result .now) (c .in-Some .job) (c .in-Some .ensures tt)
           ∙ ap (λ (xs : List Job). first-of (want-line (g .P·Processor .steps p) xs ∷ [])) (c .jobs-jobs .ensures);
-      made = tt;
+      made = refl;
       worth = worthy (g .P·Processor .steps p) _ (g .P·Processor·met .lawful p) (ordered-from _ (q .order));
     }
 
-pub sweep-corners-requires : need.sweep-corners-requires
-sweep-corners-requires g c κs =
+pub sweep-requires : need.sweep-requires
+sweep-requires g c κs =
     let e = lent-cuts (c .jobs-jobs .result .now) (c .survey-n .last .out) (c .survey-n .result) (c .survey-n .ensures .cuts) in
     record {
       few = lent-few (c .survey-n .last .out) (c .survey-n .result) (c .survey-n .ensures .most);
       rising = lent-rising (c .jobs-jobs .result .now) _ e;
+      fresh = c .new-corners .ensures .places;
     }
 
 -- the corners lent on to the drawing
@@ -63,7 +64,7 @@ draw-drawing-requires g c κs =
     let st : standing jobs ≡ true = subst (λ (xs : List Job). standing xs ≡ true) (sym (c .jobs-jobs .ensures)) (q .order) in
     let n = ap (λ (xs : List Job). length xs) (c .jobs-jobs .ensures) in
     let e = lent-cuts jobs (c .survey-n .last .out) (c .survey-n .result) (c .survey-n .ensures .cuts) in
-    let k = corners-of jobs _ (c .survey-n .last .out) (c .survey-n .result) (c .points .result .now) (c .jobs-jobs .ensures) (q .order) (c .survey-n .ensures .cuts) (c .points .ensures ∙ c .sweep-corners .ensures) in
+    let k = corners-of jobs _ (c .survey-n .last .out) (c .survey-n .result) (c .points .result .now) (c .jobs-jobs .ensures) (q .order) (c .survey-n .ensures .cuts) (c .points .ensures ∙ c .sweep .ensures) in
     record {
       cuts = e;
       drawable = corners-drawable (g .P·Processor .steps p) jobs (c .points .result .now) (g .P·Processor·met .lawful p) (ordered-from jobs st) (none-found (g .P·Processor .steps p) jobs (c .in-rest .ensures tt)) k;
@@ -80,7 +81,7 @@ returns g c =
     let jobs = c .jobs-jobs .result .now in
     let st : standing jobs ≡ true = subst (λ (xs : List Job). standing xs ≡ true) (sym (c .jobs-jobs .ensures)) (q .order) in
     let w = none-found (g .P·Processor .steps p) jobs (c .in-rest .ensures tt) in
-    let k = corners-of jobs _ (c .survey-n .last .out) (c .survey-n .result) (c .points .result .now) (c .jobs-jobs .ensures) (q .order) (c .survey-n .ensures .cuts) (c .points .ensures ∙ c .sweep-corners .ensures) in
+    let k = corners-of jobs _ (c .survey-n .last .out) (c .survey-n .result) (c .points .result .now) (c .jobs-jobs .ensures) (q .order) (c .survey-n .ensures .cuts) (c .points .ensures ∙ c .sweep .ensures) in
     record {
       answer = none-accepted (g .P·Processor .steps p) jobs w ∙ ap (λ (xs : List Job). first-of (want-line (g .P·Processor .steps p) xs ∷ [])) (c .jobs-jobs .ensures);
       made = (
