@@ -5,7 +5,7 @@ use Prim.Native.Nat.{ℕ}
 use Rattle.refusal.specs.declared.term.Term.{Term}
 use Rattle.refusal.specs.declared.term.Term.the-variants.{Constant, Linear, Cubic}
 use Rattle.refusal.specs.declared.refusal.Refusal.{Refusal}
-use Rattle.refusal.specs.declared.refusal.Refusal.the-variants.{Count, Speed, Power, Gap, Bend, Stride, Coefficient, Held, Full, Times, Work, Account, Order, Bare, Slip, Want, Price, Room, Limit}
+use Rattle.refusal.specs.declared.refusal.Refusal.the-variants.{Count, Speed, Power, Gap, Bend, Stride, Coefficient, Held, Full, Times, Work, Account, Order, Bare, Slip, Want, Price, Room, Limit, Segments, Lacking, Repeated, Ticks, Frame, Ended, Malformed, Kind, Surplus, Past}
 use Rattle.std.specs.declared.option.Option.{Option}
 use Rattle.std.specs.declared.option.Option.the-variants.{Some, None}
 use Rattle.std.specs.declared.result.Result.{Result}
@@ -46,6 +46,16 @@ told-of (Want j) = told 16 j
 told-of Price = told 17 0
 told-of (Room n) = told 18 n
 told-of Limit = told 19 0
+told-of Segments = told 20 0
+told-of Lacking = told 21 0
+told-of Repeated = told 22 0
+told-of Ticks = told 23 0
+told-of (Frame n) = told 24 n
+told-of Ended = told 25 0
+told-of Malformed = told 26 0
+told-of Kind = told 27 0
+told-of Surplus = told 28 0
+told-of Past = told 29 0
 
 -- what a call's answer tells: nothing where it was accepted
 abbrev pub outcome : {X : Type 0} → Result X Refusal → Option Told

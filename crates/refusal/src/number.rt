@@ -42,6 +42,16 @@ impl Refusal {
             Refusal::Price => 17,
             Refusal::Room { .. } => 18,
             Refusal::Limit => 19,
+            Refusal::Segments => 20,
+            Refusal::Lacking => 21,
+            Refusal::Repeated => 22,
+            Refusal::Ticks => 23,
+            Refusal::Frame { .. } => 24,
+            Refusal::Ended => 25,
+            Refusal::Malformed => 26,
+            Refusal::Kind => 27,
+            Refusal::Surplus => 28,
+            Refusal::Past => 29,
         }
     }
 
@@ -57,6 +67,7 @@ impl Refusal {
             Refusal::Coefficient { term } => term.exponent(),
             Refusal::Want { job } => job,
             Refusal::Room { segments } => segments,
+            Refusal::Frame { bytes } => bytes,
             _ => 0,
         }
     }

@@ -44,4 +44,24 @@ pub enum Refusal {
     Room { segments: usize },
     // all charges together would pass 4,000,000,000,000,000,000
     Limit,
+    // a record has more than 1,024 segments
+    Segments,
+    // a segment has a step that the processor lacks
+    Lacking,
+    // a segment has no ticks, or the step of the segment before it
+    Repeated,
+    // the segments have more than 1,008,000,000 ticks together
+    Ticks,
+    // the frame is too short for the record, which takes this many bytes
+    Frame { bytes: usize },
+    // the frame ends before the record does
+    Ended,
+    // a number is not in the fewest bytes, or goes on past its fifth
+    Malformed,
+    // the record is of another kind of processor
+    Kind,
+    // bytes are left over after the record
+    Surplus,
+    // the tick is at or past the end of the plan
+    Past,
 }

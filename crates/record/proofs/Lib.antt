@@ -1,0 +1,14 @@
+pub mod Example
+pub mod Groups
+pub mod Halfway
+pub mod Laid
+pub mod Exits
+pub mod Stretches
+pub mod Ticking
+pub mod Sofar
+pub mod Bodies
+pub mod Wholes
+pub mod Measured
+pub mod Begun
+pub mod Back
+pub mod Written

@@ -1,0 +1,5 @@
+pub mod Got
+pub mod Numbers
+pub mod Writing
+pub mod Reading
+pub mod Checks

@@ -1,0 +1,7 @@
+// The record of a plan as bytes: writing it, reading it back, and the step at a tick.
+mod check;
+pub mod machine;
+mod numbers;
+pub mod read;
+mod segments;
+pub mod write;
