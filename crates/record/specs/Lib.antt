@@ -3,3 +3,4 @@ pub mod Numbers
 pub mod Writing
 pub mod Reading
 pub mod Checks
+pub mod Example

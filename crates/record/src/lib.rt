@@ -3,5 +3,6 @@ mod check;
 pub mod machine;
 mod numbers;
 pub mod read;
+pub mod rows;
 mod segments;
 pub mod write;
