@@ -70,6 +70,18 @@ hit-longer (k ∷ ls) l ms t e = go (k .holds) (hit-longer ls l ms t) e
     go true f h = h
     go false f h = f h
 
+-- what a table gives, it gives at the front of a longer one
+pub hit-front : (ls ms : List Line) (t : Told) → first-of ls ≡ Some t → first-of (ls ++ ms) ≡ Some t
+hit-front [] ms t e = absurd (true≢false (sym (ap (λ (o : Option Told). isSome o) e)))
+hit-front (k ∷ ls) ms t e = go (k .holds) (hit-front ls ms t) e
+  where
+    u : Told
+    u = told (k .number) (k .detail)
+
+    go : (b : Bool) → (first-of ls ≡ Some t → first-of (ls ++ ms) ≡ Some t) → cond b (Some u) (first-of ls) ≡ Some t → cond b (Some u) (first-of (ls ++ ms)) ≡ Some t
+    go true f h = h
+    go false f h = f h
+
 -- where a table gives none, it goes on
 pub pass-longer : (ls ms : List Line) → first-of ls ≡ None → first-of (ls ++ ms) ≡ first-of ms
 pass-longer [] ms e = refl
