@@ -1,4 +1,6 @@
 // Cases with known answers, tried on the code. Nothing here is for use by other crates.
+#![tactic(auto)]
+
 #[cfg(test)]
 mod formulas;
 #[cfg(test)]

@@ -1,4 +1,6 @@
 // Plans one evening of jobs on two processors, and shows the path, the segments and the energy.
+#![tactic(auto)]
+
 use model::job::Job;
 use model::segment::Segment;
 use planner::path::path;

@@ -1,5 +1,7 @@
 // One evening from beginning to end: jobs are entered, held, taken, released and struck; then the plan, the close and the
 // charges.
+#![tactic(auto)]
+
 use book::book::Book;
 use model::job::Job;
 use model::segment::Segment;

@@ -1,4 +1,6 @@
 // Draws a sheet: reads one from standard input, and prints the two walls, the path between them and the plan as an SVG picture.
+#![tactic(auto)]
+
 mod canvas;
 mod rows;
 

@@ -1,5 +1,7 @@
 // The plan program: reads a sheet from standard input, and prints the plan of least energy of its jobs on its ladder, each segment as
 // step and ticks, and then the energy; or else one line that says why the sheet is refused, and at which line.
+#![tactic(auto)]
+
 ghost use Rattle.std.specs.Prelude.{◌≤◌, length, IfOk};
 
 use anyhow::anyhow;

@@ -1,3 +1,5 @@
 // Plans and refusals as text.
+#![tactic(auto)]
+
 pub mod plan;
 pub mod refused;

@@ -1,4 +1,6 @@
 // Processors: the interface through which every planner call sees one, and two that keep its rules.
+#![tactic(auto)]
+
 mod check;
 pub mod formula;
 pub mod formula_kind;

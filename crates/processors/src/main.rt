@@ -1,4 +1,6 @@
 // Shows a ladder and a formula step by step, and what a ladder that breaks a rule is refused with.
+#![tactic(auto)]
+
 use processor::formula::Formula;
 use processor::ladder::Ladder;
 use processor::processor::Processor;

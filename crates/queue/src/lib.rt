@@ -1,3 +1,5 @@
 // The queue of standing jobs, which keeps its order in its type.
+#![tactic(auto)]
+
 pub mod calls;
 pub mod queue;

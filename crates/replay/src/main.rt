@@ -2,6 +2,8 @@
 //
 // Each line of the input is a call, an equals sign and its answer. The word `book` begins a new book; a processor stays for the books
 // after it.
+#![tactic(auto)]
+
 mod answer;
 mod call;
 mod desk;

@@ -1,4 +1,6 @@
 // Sheets: a ladder and jobs as text, and the plan drawn from them as text.
+#![tactic(auto)]
+
 pub mod draw;
 pub mod fault;
 mod page;

@@ -1,5 +1,7 @@
 // A tester: draws every recorded sheet of the folder that it runs in, and compares what is printed with the recorded text, byte by
 // byte.
+#![tactic(auto)]
+
 use anyhow::anyhow;
 use sheet::print::print_sheet;
 use std::fs;

@@ -1,4 +1,6 @@
 // The sweep: one pass along the cuts that finds the corners of the path.
+#![tactic(auto)]
+
 pub mod chain;
 mod pass;
 pub mod store;

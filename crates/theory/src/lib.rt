@@ -1,5 +1,7 @@
 // The theorems over the definitions of `model`. Each function here does nothing: its contract is a theorem, so that the
 // check of this crate demands the proof.
+#![tactic(auto)]
+
 ghost use Rattle.theory.specs.Rows.{AllHold, rows, AllBend, bends};
 ghost use Rattle.theory.specs.Theorems.{PathExists, PathIsOne, PlanServes, PlanIsLeast, WantIsNoWay, ChargesAddUp};
 

@@ -1,4 +1,6 @@
 // Tries the worked cases on the code, one by one, and prints what came out.
+#![tactic(auto)]
+
 mod cases;
 mod steps;
 
