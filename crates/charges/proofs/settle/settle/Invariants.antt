@@ -4,8 +4,8 @@ use Rattle.charges.specs.Rows.{rows_of}
 use Rattle.charges.proofs.settle.settle.Given as goal
 
 -- what has been paid, with what is owed for the segments from k on, is what was owed for all
-abbrev pub invariant_loop_k : goal.invariant-loop-k
-invariant_loop_k g l =
+abbrev pub invariant-loop-k : goal.invariant-loop-k
+invariant-loop-k g l =
     (l.at.grain ≤ 5040004000)
     × ((a : ℕ)
     → owing (g.P.Processor.steps l.processor) l.jobs (rows_of l.charges) l.at (drop l.k l.segments) a

@@ -7,13 +7,13 @@ use Rattle.charges.specs.Rows.{rows_of}
 use Rattle.charges.proofs.settle.settle_segment.Given as goal
 
 -- what has been paid, with what is owed for the ticks that are left at a step of this speed and power, stays the same
-abbrev pub invariant_loop_left : goal.invariant-loop-left
-invariant_loop_left g l =
+abbrev pub invariant-loop-left : goal.invariant-loop-left
+invariant-loop-left g l =
     (l.at.grain ≤ 5040004000)
     × (l.left ≤ l.initial.left)
     × ((h : ℕ) → l.speed ≡ speed_at (g.P.Processor.steps l.processor) h → l.power ≡ power_at (g.P.Processor.steps l.processor) h → (rest : List Segment) (a : ℕ)
     → owing (g.P.Processor.steps l.processor) l.jobs (rows_of l.charges) l.at (segment h l.left ∷ rest) a
     ≡ owing (g.P.Processor.steps l.processor) l.jobs (rows_of l.initial.charges) l.initial.at (segment h l.initial.left ∷ rest) a)
 
-abbrev pub decreases_loop_left : goal.decreases-loop-left
-decreases_loop_left g l = l.left + (length l.jobs - l.at.job)
+abbrev pub decreases-loop-left : goal.decreases-loop-left
+decreases-loop-left g l = l.left + (length l.jobs - l.at.job)

@@ -4,5 +4,5 @@ use Rattle.grammar.proofs.Parting.{Free}
 use Rattle.grammar.proofs.lines.line_end.Given as goal
 
 -- no line ends before here
-abbrev pub invariant_loop_at : goal.invariant-loop-at
-invariant_loop_at l = Free line_feed (take (l.at - l.start) (drop l.start l.sheet))
+abbrev pub invariant-loop-at : goal.invariant-loop-at
+invariant-loop-at l = Free line_feed (take (l.at - l.start) (drop l.start l.sheet))

@@ -3,5 +3,5 @@ use Rattle.grammar.proofs.Fielded.{Fielded}
 use Rattle.grammar.proofs.rows.read_fields.Given as goal
 
 -- k numbers are read
-abbrev pub invariant_loop_k : goal.invariant-loop-k
-invariant_loop_k l = Fielded l.line l.numbers l.k l.at
+abbrev pub invariant-loop-k : goal.invariant-loop-k
+invariant-loop-k l = Fielded l.line l.numbers l.k l.at

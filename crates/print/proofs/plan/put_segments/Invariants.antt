@@ -2,5 +2,5 @@ use Rattle.print.proofs.Putting.{SegmentsPut}
 use Rattle.print.proofs.plan.put_segments.Given as goal
 
 -- k segments are written
-abbrev pub invariant_loop_k : goal.invariant-loop-k
-invariant_loop_k l = SegmentsPut l.initial.out l.out l.segments l.k l.at
+abbrev pub invariant-loop-k : goal.invariant-loop-k
+invariant-loop-k l = SegmentsPut l.initial.out l.out l.segments l.k l.at

@@ -3,8 +3,8 @@ use Rattle.model.specs.Steps.{no_step}
 use Rattle.processor.proofs.make.pair.Given as goal
 
 -- the places before i are paired
-abbrev pub invariant_loop_i : goal.invariant-loop-i
-invariant_loop_i l =
+abbrev pub invariant-loop-i : goal.invariant-loop-i
+invariant-loop-i l =
     (length l.steps ≡ 16)
     × (length l.speeds ≡ 16)
     × (length l.powers ≡ 16)

@@ -4,8 +4,8 @@ use Rattle.record.proofs.Sofar.{Sofar}
 use Rattle.record.proofs.check.fill.Given as goal
 
 -- the segments so far stand in the buffer
-abbrev pub invariant_loop_k : goal.invariant-loop-k
-invariant_loop_k l =
+abbrev pub invariant-loop-k : goal.invariant-loop-k
+invariant-loop-k l =
     (ss : List Segment)
     × Sofar l.bytes l.first l.steps l.count l.k l.at l.before l.ticks ss
     × (l.buffer ≡ ss ++ drop l.k l.initial.buffer)

@@ -4,9 +4,9 @@ use Rattle.survey.proofs.Merged.{At}
 use Rattle.survey.proofs.merge.survey.Given as goal
 
 -- the cuts before place n are written, and t is the cut there
-abbrev pub invariant_loop_after : goal.invariant-loop-after
-invariant_loop_after l = At l.jobs l.out l.n l.t l.before
+abbrev pub invariant-loop-after : goal.invariant-loop-after
+invariant-loop-after l = At l.jobs l.out l.n l.t l.before
 
 -- as many cuts as are left
-abbrev pub decreases_loop_after : goal.decreases-loop-after
-decreases_loop_after l = length (cuts l.jobs) - l.n
+abbrev pub decreases-loop-after : goal.decreases-loop-after
+decreases-loop-after l = length (cuts l.jobs) - l.n

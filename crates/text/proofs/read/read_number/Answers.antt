@@ -9,14 +9,14 @@ returns-then-at-start-ge10 c =
     let d = c.in-Some.ensures in
     too_long c.args.bytes.now c.args.start l.at l.n l.invariant d.0 d.1.0 d.1.1 c.if-at-start-ge10.true
 
-pub overflow-mul-n : goal.overflow-mul-n
-overflow-mul-n c =
+pub overflow_mul-n : goal.overflow_mul-n
+overflow_mul-n c =
     let l = c.loop-digit in
     let s = small c.args.bytes.now c.args.start l.at l.n l.invariant in
     omega arith
 
-pub overflow-add-n : goal.overflow-add-n
-overflow-add-n c =
+pub overflow_add-n : goal.overflow_add-n
+overflow_add-n c =
     let l = c.loop-digit in
     let s = small c.args.bytes.now c.args.start l.at l.n l.invariant in
     let d = c.in-Some.ensures in
@@ -31,7 +31,7 @@ loop-digit-preserved c =
 pub returns-then-at-start : goal.returns-then-at-start
 returns-then-at-start c =
     let l = c.loop-digit in
-    none_there c.args.bytes.now c.args.start l.at l.n l.invariant c.in-default.ensures c.if-at-start.true
+    none_there c.args.bytes.now c.args.start l.at l.n l.invariant c.in_default.ensures c.if-at-start.true
 
 pub bounds-bytes-start : goal.bounds-bytes-start
 bounds-bytes-start c =
@@ -41,12 +41,12 @@ bounds-bytes-start c =
 pub returns-then-at-start-gt1 : goal.returns-then-at-start-gt1
 returns-then-at-start-gt1 c =
     let l = c.loop-digit in
-    needless c.args.bytes.now c.args.start l.at l.n l.invariant c.in-default.ensures c.if-bytes-start-eq48.true c.if-at-start-gt1.true
+    needless c.args.bytes.now c.args.start l.at l.n l.invariant c.in_default.ensures c.if-bytes-start-eq48.true c.if-at-start-gt1.true
 
 pub returns : goal.returns
 returns c =
     let l = c.loop-digit in
-    there c.args.bytes.now c.args.start l.at l.n l.invariant c.in-default.ensures c.if-at-start.false
+    there c.args.bytes.now c.args.start l.at l.n l.invariant c.in_default.ensures c.if-at-start.false
     (λ z.
     elim c.else-bytes-start-eq48.branch [
       | else-bytes-start-eq48-via-then-bytes-start-eq48+else-at-start-gt1 w ↦ w.if-at-start-gt1.false

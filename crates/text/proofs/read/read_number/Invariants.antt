@@ -3,8 +3,8 @@ use Rattle.text.proofs.Partway.{Partway}
 use Rattle.text.proofs.read.read_number.Given as goal
 
 -- digits are read up to here
-abbrev pub invariant_loop_digit : goal.invariant-loop-digit
-invariant_loop_digit l = Partway l.bytes l.start l.at l.n
+abbrev pub invariant-loop-digit : goal.invariant-loop-digit
+invariant-loop-digit l = Partway l.bytes l.start l.at l.n
 
-abbrev pub decreases_loop_digit : goal.decreases-loop-digit
-decreases_loop_digit l = length l.bytes - l.at
+abbrev pub decreases-loop-digit : goal.decreases-loop-digit
+decreases-loop-digit l = length l.bytes - l.at

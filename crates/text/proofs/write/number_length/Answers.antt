@@ -3,8 +3,8 @@ use Rattle.std.proofs.lemmas.Fmt.{decimal_digit, decimal_step, length-decimal-le
 use Rattle.std.proofs.lemmas.List.{length_push}
 use Rattle.text.proofs.write.number_length.Goals as goal
 
-pub overflow-add-length : goal.overflow-add-length
-overflow-add-length c =
+pub overflow_add-length : goal.overflow_add-length
+overflow_add-length c =
     let l = length-decimal-le 20 c.args.n (lit< tt) (omega arith) (omega arith) in
     omega (arith, c.loop-rest.invariant.0)
 

@@ -4,10 +4,10 @@ use Rattle.text.proofs.Spelled.{nothing_yet, room, within, digit_by, first_digit
 use Rattle.text.proofs.write.put_number.Goals as goal
 
 pub loop-rest-init : goal.loop-rest-init
-loop-rest-init c = nothing_yet c.args.out.now c.args.at c.args.n (c.args.at + c.number-length.result) (omega arith) (omega (arith, c.number-length.ensures))
+loop-rest-init c = nothing_yet c.args.out.now c.args.at c.args.n (c.args.at + c.number_length.result) (omega arith) (omega (arith, c.number_length.ensures))
 
-pub overflow-sub-place : goal.overflow-sub-place
-overflow-sub-place c =
+pub overflow_sub-place : goal.overflow_sub-place
+overflow_sub-place c =
     let l = c.loop-rest in
     let r = room c.args.out.now l.out c.args.at c.args.n l.place l.rest l.invariant c.loop-rest-test.true in
     omega arith
@@ -34,4 +34,4 @@ bounds-out-at c =
 pub returns : goal.returns
 returns c =
     let l = c.loop-rest in
-    record { place = ap (λ (x : ℕ). c.args.at + x) c.number-length.ensures; bytes = first_digit c.args.out.now l.out c.args.at c.args.n l.place l.rest l.invariant c.requires c.loop-rest-test.false }
+    record { place = ap (λ (x : ℕ). c.args.at + x) c.number_length.ensures; bytes = first_digit c.args.out.now l.out c.args.at c.args.n l.place l.rest l.invariant c.requires c.loop-rest-test.false }

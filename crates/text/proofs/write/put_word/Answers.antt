@@ -5,4 +5,4 @@ use Rattle.text.proofs.write.put_word.Goals as goal
 pub returns : goal.returns
 returns c =
     let w = c.args.word.now in
-    record { place = refl; bytes = laid_over c.args.at (c.args.at + length w) w c.args.out.now c.copy-from-slice.new.self c.copy-from-slice.ensures.after refl }
+    record { place = refl; bytes = laid_over c.args.at (c.args.at + length w) w c.args.out.now c.copy_from_slice.new.self c.copy_from_slice.ensures.after refl }

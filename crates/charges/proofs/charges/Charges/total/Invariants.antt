@@ -4,5 +4,5 @@ use Rattle.charges.specs.Rows.{rows_of}
 use Rattle.charges.proofs.charges.Charges.total.Given as goal
 
 -- the sum of the rows before a
-abbrev pub invariant_loop_a : goal.invariant-loop-a
-invariant_loop_a l = l.sum ≡ sum_to l.a (λ x. get_or (rows_of l.self) x 0)
+abbrev pub invariant-loop-a : goal.invariant-loop-a
+invariant-loop-a l = l.sum ≡ sum_to l.a (λ x. get_or (rows_of l.self) x 0)

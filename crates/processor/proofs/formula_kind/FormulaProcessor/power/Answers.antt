@@ -14,8 +14,8 @@ returns c =
     sym (figures_power f.count f.stride f.constant f.linear f.cubic c.args.step c.if-step-self.false)
 
 -- no step takes more than 1,000,000
-pub overflow-mul-result-4 : goal.overflow-mul-result-4
-overflow-mul-result-4 c =
+pub overflow_mul-result-4 : goal.overflow_mul-result-4
+overflow_mul-result-4 c =
     let f = c.args.self.now in
     let w = within f.count f.stride f.constant f.linear f.cubic f.lawful in
     let d = dearest f.constant f.linear f.cubic c.args.step w.constant w.linear w.cubic (omega arith) in

@@ -4,11 +4,11 @@ use Rattle.processor.specs.Rules.{paired}
 use Rattle.processor.proofs.Exact.{exactly}
 use Rattle.processor.proofs.ladder.Ladder.fill.Goals as goal
 
-pub returns-in-err-check : goal.returns-in-err-check
-returns-in-err-check c = record {
+pub returns-in_err-check : goal.returns-in_err-check
+returns-in_err-check c = record {
   answer = search rules;
   exact =
-      exactly c.from-residual.result (paired c.args.speeds c.args.powers) c.args.count
+      exactly c.from_residual.result (paired c.args.speeds c.args.powers) c.args.count
       (ap (λ (s : List Step). length s) (sym c.pair-steps.ensures.value) ∙ c.pair-steps.ensures.len) (search rules);
   after = search rules;
 }

@@ -7,15 +7,15 @@ use Rattle.processor.proofs.rule.Rule.first_odd.Goals as goal
 pub loop-i-init : goal.loop-i-init
 loop-i-init c = first_start (odd_at c.args.self c.args.steps.now)
 
-pub returns-then-odd-at : goal.returns-then-odd-at
+pub returns-then-odd_at : goal.returns-then-odd_at
 unfolding first_odd
-returns-then-odd-at c =
+returns-then-odd_at c =
     sym
     (first_here (length c.args.steps.now) c.loop-i.i (odd_at c.args.self c.args.steps.now) c.loop-i.invariant
-    (sym c.if-odd-at.ensures) c.loop-i-test.true)
+    (sym c.if-odd_at.ensures) c.loop-i-test.true)
 
 pub loop-i-preserved : goal.loop-i-preserved
-loop-i-preserved c = first_more c.loop-i.i (odd_at c.args.self c.args.steps.now) c.loop-i.invariant (sym c.if-odd-at.ensures)
+loop-i-preserved c = first_more c.loop-i.i (odd_at c.args.self c.args.steps.now) c.loop-i.invariant (sym c.if-odd_at.ensures)
 
 pub returns : goal.returns
 unfolding first_odd

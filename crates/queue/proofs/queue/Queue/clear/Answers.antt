@@ -4,6 +4,10 @@ use Rattle.queue.specs.Queues.{standing}
 use Rattle.queue.proofs.Order.{standing_none}
 use Rattle.queue.proofs.queue.Queue.clear.Goals as goal
 
-pub invariant-of-self : goal.invariant-of-self
-invariant-of-self c =
-    (search rules, (search rules, (subst (λ (xs : List Job). standing xs ≡ true) (sym c.clear.ensures.items) standing_none, tt)))
+pub invariant_of-self : goal.invariant_of-self
+invariant_of-self c =
+    record {
+      few = search rules;
+      room = search rules;
+      order = subst (λ (xs : List Job). standing xs ≡ true) (sym c.clear.ensures.items) standing_none;
+    }

@@ -4,11 +4,10 @@ use Rattle.queue.specs.Queues.{standing}
 use Rattle.queue.proofs.Order.{standing_none}
 use Rattle.queue.proofs.queue.Queue.new.Goals as goal
 
-pub invariant-of-result : goal.invariant-of-result
-invariant-of-result c = (
-  search rules,
-  (
-    search rules,
-    (subst (λ (xs : List Job). standing xs ≡ true) (sym c.in-ok-jobs.ensures.items) standing_none, tt),
-  ),
-)
+pub invariant_of-result : goal.invariant_of-result
+invariant_of-result c =
+    record {
+      few = search rules;
+      room = search rules;
+      order = subst (λ (xs : List Job). standing xs ≡ true) (sym c.in_ok-jobs.ensures.items) standing_none;
+    }

@@ -5,19 +5,18 @@ use Rattle.queue.specs.Meaning.{jobs_of}
 use Rattle.queue.proofs.Admitted.{admitted, standing_with}
 use Rattle.queue.proofs.queue.Queue.push.Goals as goal
 
-pub invariant-of-self : goal.invariant-of-self
-invariant-of-self c =
+pub invariant_of-self : goal.invariant_of-self
+invariant_of-self c =
     let q = c.args.self.now in
-    let a = admitted (jobs_of q) c.args.job c.in-ok-admits.ensures in (
-      omega (arith, a.room, q.jobs.ok.0, c.push-reserved.ensures.len),
-      (
-        search rules,
-        (subst (λ (xs : List Job). standing xs ≡ true) (sym c.push-reserved.ensures.items) (standing_with (jobs_of q) c.args.job q.order a), tt),
-      ),
-    )
+    let a = admitted (jobs_of q) c.args.job c.in_ok-admits.ensures in
+    record {
+      few = omega (arith, a.room, q.jobs.ok.0, c.push_reserved.ensures.len);
+      room = search rules;
+      order = subst (λ (xs : List Job). standing xs ≡ true) (sym c.push_reserved.ensures.items) (standing_with (jobs_of q) c.args.job q.order a);
+    }
 
-pub push-reserved-requires : goal.push-reserved-requires
-push-reserved-requires c =
+pub push_reserved-requires : goal.push_reserved-requires
+push_reserved-requires c =
     let q = c.args.self.now in
-    let a = admitted (jobs_of q) c.args.job c.in-ok-admits.ensures in
+    let a = admitted (jobs_of q) c.args.job c.in_ok-admits.ensures in
     omega (arith, a.room, q.jobs.ok.0, q.room)
