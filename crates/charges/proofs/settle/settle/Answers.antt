@@ -5,8 +5,8 @@ use Rattle.charges.proofs.Raised.{rows_count}
 use Rattle.charges.proofs.Ends.{ticks_small, room_next, owing_on, all_paid, settled_is}
 use Rattle.charges.proofs.settle.settle.Goals as goal
 
-pub settle-segment-at-requires : goal.settle-segment-at-requires
-settle-segment-at-requires g c =
+pub settle_segment-at-requires : goal.settle_segment-at-requires
+settle_segment-at-requires g c =
     let steps = g.P.Processor.steps c.args.processor.now in
     let segments = c.args.segments.now in
     let l = c.loop-k in
@@ -24,10 +24,10 @@ loop-k-preserved g c =
     let steps = g.P.Processor.steps c.args.processor.now in
     let segments = c.args.segments.now in
     let l = c.loop-k in (
-      c.settle-segment-at.ensures.near,
+      c.settle_segment-at.ensures.near,
       λ a.
-          owing_on steps c.args.jobs.now (rows_of c.args.charges.now) (rows_of l.charges) (rows_of c.settle-segment-at.new.charges) (record { job = 0; grain = 0 }) l.at
-          c.settle-segment-at.result segments l.k a c.loop-k-test.true (l.invariant.1 a) (c.settle-segment-at.ensures.paid (drop (l.k + 1) segments) a),
+          owing_on steps c.args.jobs.now (rows_of c.args.charges.now) (rows_of l.charges) (rows_of c.settle_segment-at.new.charges) (record { job = 0; grain = 0 }) l.at
+          c.settle_segment-at.result segments l.k a c.loop-k-test.true (l.invariant.1 a) (c.settle_segment-at.ensures.paid (drop (l.k + 1) segments) a),
     )
 
 pub returns : goal.returns

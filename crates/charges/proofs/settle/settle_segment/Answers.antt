@@ -8,8 +8,8 @@ use Rattle.charges.proofs.settle.settle_segment.Goals as goal
 pub loop-left-init : goal.loop-left-init
 loop-left-init g c = (c.requires.near, omega arith, λ h ev ew rest a. refl)
 
-pub overflow-mul-power : goal.overflow-mul-power
-overflow-mul-power g c =
+pub overflow_mul-power : goal.overflow_mul-power
+overflow_mul-power g c =
     let p = c.args.processor.now in
     let q = energy_small (g.P.Processor.steps p) (g.met.P.Processor.lawful p) c.args.segment.step c.power-power.result c.loop-left.left c.power-power.ensures (omega (arith, c.loop-left.invariant.1, c.requires.short)) in
     omega (arith, q)
@@ -41,9 +41,9 @@ returns-then-speed-eq0 g c =
           ∙ owing_whole steps c.args.jobs.now (rows_of c.args.charges.now) c.args.start s rest a);
     }
 
-pub overflow-mul-grains : goal.overflow-mul-grains
+pub overflow_mul-grains : goal.overflow_mul-grains
 unfolding job_at
-overflow-mul-grains g c = omega (arith, grains_small c.args.jobs.now c.requires.order c.loop-left.at.job c.if-at-jobs.false)
+overflow_mul-grains g c = omega (arith, grains_small c.args.jobs.now c.requires.order c.loop-left.at.job c.if-at-jobs.false)
 
 pub loop-left-preserved-then-at-grains : goal.loop-left-preserved-then-at-grains
 unfolding job_at
@@ -55,9 +55,9 @@ loop-left-preserved-then-at-grains g c =
       λ h ev ew rest a. skip steps c.args.jobs.now (rows_of l.charges) l.at _ a c.if-at-jobs.false c.if-at-grains.true ∙ l.invariant.2 h ev ew rest a,
     )
 
-pub own-ticks-ticks-requires : goal.own-ticks-ticks-requires
+pub own_ticks-ticks-requires : goal.own_ticks-ticks-requires
 unfolding job_at
-own-ticks-ticks-requires g c =
+own_ticks-ticks-requires g c =
     let p = c.args.processor.now in
     let k = grains_small c.args.jobs.now c.requires.order c.loop-left.at.job c.if-at-jobs.false in (
       omega (arith, c.if-speed-eq0.false),
@@ -65,12 +65,12 @@ own-ticks-ticks-requires g c =
       omega arith,
     )
 
-pub overflow-mul-power-in-loop-left : goal.overflow-mul-power-in-loop-left
-overflow-mul-power-in-loop-left g c =
+pub overflow_mul-power-in-loop-left : goal.overflow_mul-power-in-loop-left
+overflow_mul-power-in-loop-left g c =
     let p = c.args.processor.now in
     let q =
-    energy_small (g.P.Processor.steps p) (g.met.P.Processor.lawful p) c.args.segment.step c.power-power.result c.own-ticks-ticks.result c.power-power.ensures
-    (omega (arith, c.own-ticks-ticks.ensures, c.loop-left.invariant.1, c.requires.short))
+    energy_small (g.P.Processor.steps p) (g.met.P.Processor.lawful p) c.args.segment.step c.power-power.result c.own_ticks-ticks.result c.power-power.ensures
+    (omega (arith, c.own_ticks-ticks.ensures, c.loop-left.invariant.1, c.requires.short))
     in
     omega (arith, q)
 
@@ -87,27 +87,27 @@ raise-requires-in-loop-left g c =
     let j = owing_whole steps jobs (rows_of c.args.charges.now) c.args.start s [] x in
     let r =
     own_room steps jobs (rows_of l.charges) s.step c.speed-speed.result c.power-power.result c.speed-speed.ensures c.power-power.ensures
-    l.at l.left c.own-ticks-ticks.result c.if-at-jobs.false (omega (arith, c.if-speed-eq0.false)) c.if-at-grains.false c.own-ticks-ticks.ensures 4000000000000000000 (omega (arith, i, j, c.requires.room x k))
+    l.at l.left c.own_ticks-ticks.result c.if-at-jobs.false (omega (arith, c.if-speed-eq0.false)) c.if-at-grains.false c.own_ticks-ticks.ensures 4000000000000000000 (omega (arith, i, j, c.requires.room x k))
     in
     record { known = k; room = omega (arith, r) }
 
-pub overflow-mul-at : goal.overflow-mul-at
+pub overflow_mul-at : goal.overflow_mul-at
 unfolding job_at
-overflow-mul-at g c =
+overflow_mul-at g c =
     let p = c.args.processor.now in
     let n =
     stays_near (g.P.Processor.steps p) (g.met.P.Processor.lawful p) c.args.jobs.now c.requires.order c.args.segment.step c.speed-speed.result c.speed-speed.ensures (omega (arith, c.if-speed-eq0.false))
-    c.loop-left.at c.loop-left.left c.own-ticks-ticks.result c.if-at-jobs.false c.if-at-grains.false c.own-ticks-ticks.ensures
+    c.loop-left.at c.loop-left.left c.own_ticks-ticks.result c.if-at-jobs.false c.if-at-grains.false c.own_ticks-ticks.ensures
     in
     omega (arith, n)
 
-pub overflow-add-at-in-loop-left : goal.overflow-add-at-in-loop-left
+pub overflow_add-at-in-loop-left : goal.overflow_add-at-in-loop-left
 unfolding job_at
-overflow-add-at-in-loop-left g c =
+overflow_add-at-in-loop-left g c =
     let p = c.args.processor.now in
     let n =
     stays_near (g.P.Processor.steps p) (g.met.P.Processor.lawful p) c.args.jobs.now c.requires.order c.args.segment.step c.speed-speed.result c.speed-speed.ensures (omega (arith, c.if-speed-eq0.false))
-    c.loop-left.at c.loop-left.left c.own-ticks-ticks.result c.if-at-jobs.false c.if-at-grains.false c.own-ticks-ticks.ensures
+    c.loop-left.at c.loop-left.left c.own_ticks-ticks.result c.if-at-jobs.false c.if-at-grains.false c.own_ticks-ticks.ensures
     in
     omega (arith, n)
 
@@ -118,11 +118,11 @@ loop-left-preserved g c =
     let jobs = c.args.jobs.now in
     let l = c.loop-left in (
       stays_near (g.P.Processor.steps p) (g.met.P.Processor.lawful p) jobs c.requires.order c.args.segment.step c.speed-speed.result c.speed-speed.ensures (omega (arith, c.if-speed-eq0.false))
-          l.at l.left c.own-ticks-ticks.result c.if-at-jobs.false c.if-at-grains.false c.own-ticks-ticks.ensures,
+          l.at l.left c.own_ticks-ticks.result c.if-at-jobs.false c.if-at-grains.false c.own_ticks-ticks.ensures,
       omega (arith, l.invariant.1),
       λ h ev ew rest a.
           own_pays (g.P.Processor.steps p) jobs (rows_of l.charges) h c.speed-speed.result c.power-power.result ev ew
-          l.at l.left c.own-ticks-ticks.result c.if-at-jobs.false (omega (arith, c.if-speed-eq0.false)) c.if-at-grains.false c.own-ticks-ticks.ensures
+          l.at l.left c.own_ticks-ticks.result c.if-at-jobs.false (omega (arith, c.if-speed-eq0.false)) c.if-at-grains.false c.own_ticks-ticks.ensures
           (rows_of c.raise-in-loop-left.new.self) (omega (arith, rows_count l.charges, account_known jobs c.requires.order l.at.job c.if-at-jobs.false)) c.raise-in-loop-left.ensures rest a
           ∙ l.invariant.2 h ev ew rest a,
     )

@@ -20,8 +20,8 @@ pub at-lane-requires : goal.at-lane-requires
 at-lane-requires g c =
     corners_there (g.P.Processor.steps c.args.processor.now) c.args.jobs.now c.args.corners.now c.requires.drawable c.requires.short c.requires.light (omega (arith, c.if-jobs-eq0.false))
 
-pub overflow-sub-last : goal.overflow-sub-last
-overflow-sub-last g c =
+pub overflow_sub-last : goal.overflow_sub-last
+overflow_sub-last g c =
     let a = (cuts_begin c.args.jobs.now).1 in
     let b = survey_length c.args.jobs.now in
     let e = ap (λ xs. length xs) c.requires.cuts in

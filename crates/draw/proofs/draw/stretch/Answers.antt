@@ -3,13 +3,13 @@ use Rattle.model.specs.Plan.{ticks_between}
 use Rattle.draw.proofs.Stretched.{drew}
 use Rattle.draw.proofs.draw.stretch.Goals as goal
 
-pub overflow-sub-slow : goal.overflow-sub-slow
+pub overflow_sub-slow : goal.overflow_sub-slow
 unfolding ticks_between
-overflow-sub-slow g c = omega (arith, c.requires.fits, c.fast-fast.ensures, c.from-ticks.ensures)
+overflow_sub-slow g c = omega (arith, c.requires.fits, c.fast-fast.ensures, c.from-ticks.ensures)
 
-pub put-both-requires : goal.put-both-requires
+pub put_both-requires : goal.put_both-requires
 unfolding ticks_between
-put-both-requires g c = record {
+put_both-requires g c = record {
   room = c.requires.room;
   short = omega (arith, c.requires.fits, c.fast-fast.ensures, c.from-ticks.ensures, c.requires.within.ticks, c.requires.onward, c.requires.going, c.requires.fair.soon);
   cheap = omega (arith, c.requires.fits, c.fast-fast.ensures, c.from-ticks.ensures, c.requires.within.spent, c.requires.onward, c.requires.going, c.requires.fair.soon);
@@ -20,11 +20,11 @@ unfolding ticks_between
 returns g c =
     let d = drew (g.P.Processor.steps c.args.processor.now) (g.met.P.Processor.lawful c.args.processor.now) c.args.lane.now c.args.s c.args.t
     (5040 * c.from-ticks.result) c.fast-fast.result
-    (take c.args.drawing.now.count c.args.out.now) (take c.put-both.new.drawing.count c.put-both.new.out) c.args.drawing.now.energy c.put-both.new.drawing.energy
-    (omega (arith, c.from-ticks.ensures)) c.fast-fast.ensures c.requires.fits c.put-both.ensures.runs c.put-both.ensures.spent in
+    (take c.args.drawing.now.count c.args.out.now) (take c.put_both.new.drawing.count c.put_both.new.out) c.args.drawing.now.energy c.put_both.new.drawing.energy
+    (omega (arith, c.from-ticks.ensures)) c.fast-fast.ensures c.requires.fits c.put_both.ensures.runs c.put_both.ensures.spent in
     record {
       runs = d.runs;
-      few = c.put-both.ensures.few;
+      few = c.put_both.ensures.few;
       spent = d.spent;
       within = record {
         ticks = omega (arith, d.ticks, c.requires.within.ticks, c.requires.onward);

@@ -10,8 +10,8 @@ returns-then-run-eq0 c = record {
   few = omega arith;
 }
 
-pub overflow-add-out : goal.overflow-add-out
-overflow-add-out c =
+pub overflow_add-out : goal.overflow_add-out
+overflow_add-out c =
     let a = last_ticks c.args.out.now c.args.count (record { step = 0; ticks = 0 }) c.if-count-gt0.true (omega (arith, c.requires.room)) in
     omega (arith, c.requires.short)
 

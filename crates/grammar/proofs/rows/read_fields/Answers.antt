@@ -17,10 +17,10 @@ returns-then-at-line c ms n s e =
     ] in
     no_space c.args.line.now l.numbers ms l.k l.at l.invariant (omega arith) w n s e
 
-pub returns-in-default : goal.returns-in-default
-returns-in-default c ms n s e =
+pub returns-in_default : goal.returns-in_default
+returns-in_default c ms n s e =
     let l = c.loop-k in
-    no_number c.args.line.now l.numbers ms l.k l.at l.invariant (omega arith) c.if-at-line.false c.in-default.ensures n s e
+    no_number c.args.line.now l.numbers ms l.k l.at l.invariant (omega arith) c.if-at-line.false c.in_default.ensures n s e
 
 pub loop-k-preserved : goal.loop-k-preserved
 loop-k-preserved c =

@@ -8,6 +8,6 @@ use Rattle.record.proofs.check.check.Given as goal
 abbrev pub invariant-loop-k : goal.invariant-loop-k
 invariant-loop-k l =
     (ss : List Segment)
-    × Sofar l.bytes l.first l.steps l.count l.-k l.at l.before l.ticks ss
+    × Sofar l.bytes l.first l.steps l.count l._k l.at l.before l.ticks ss
     × ((l.ticks ≤ l.tick) ⊎ (l.step ≡ step_at ss l.tick))
     × (l.step ≤ l.steps)

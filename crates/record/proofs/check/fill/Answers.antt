@@ -5,8 +5,8 @@ use Rattle.record.proofs.Sofar.{sofar_start, sofar_on, sofar_as, sofar_refused, 
 use Rattle.record.proofs.check.fill.Goals as goal
 use Rattle.record.proofs.check.fill.Goals.{in-Ok, in-Err}
 
-pub read-segment-requires : goal.read-segment-requires
-read-segment-requires c = c.loop-k.invariant.1.short
+pub read_segment-requires : goal.read_segment-requires
+read_segment-requires c = c.loop-k.invariant.1.short
 
 pub loop-k-init : goal.loop-k-init
 loop-k-init c = ([], sofar_start c.args.bytes.now c.args.first c.args.steps c.args.count, refl)
@@ -15,7 +15,7 @@ pub loop-k-preserved : goal.loop-k-preserved
 loop-k-preserved c =
     let a = c.args in
     let l = c.loop-k in
-    let m = c.match-read-segment in
+    let m = c.match-read_segment in
     elim m.branch [
       | in-Ok w ↦ (
         l.invariant.0 ++ (w.in-Ok.segment ∷ []),

@@ -20,28 +20,28 @@ returns-then-kind-lt1 c =
     in
     record { low = tt; answer = sym (ap (λ (g : Got (List Segment)). machine_answer g c.args.tick) (any_kindless b (omega (arith, c.if-record-eq0.false)) way)) }
 
-pub returns-in-err-passed : goal.returns-in-err-passed
-returns-in-err-passed c =
-    let y = err_from_is_err_and c.from-residual.result c.from-residual.ensures.1 in
-    let e = c.in-err-passed.field-0.0 in
+pub returns-in_err-passed : goal.returns-in_err-passed
+returns-in_err-passed c =
+    let y = err_from_is_err_and c.from_residual.result c.from_residual.ensures.1 in
+    let e = c.in_err-passed.field-0.0 in
     let b = c.args.record.now in
     record {
-      low = IfOk-from_err c.from-residual.result _ c.from-residual.ensures.0;
+      low = IfOk-from_err c.from_residual.result _ c.from_residual.ensures.0;
       answer =
-          numbered_err c.from-residual.result y.0 e y.1 y.2
+          numbered_err c.from_residual.result y.0 e y.1 y.2
           ∙ sym
           (ap (λ (g : Got (List Segment)). machine_answer g c.args.tick)
-          (any_body b (omega (arith, c.if-record-eq0.false)) (omega (arith, c.if-kind-lt1.false)) (omega (arith, c.if-kind-gt127.false)) ∙ c.in-err-passed.ensures));
+          (any_body b (omega (arith, c.if-record-eq0.false)) (omega (arith, c.if-kind-lt1.false)) (omega (arith, c.if-kind-gt127.false)) ∙ c.in_err-passed.ensures));
     }
 
 pub returns-then-passed-tick : goal.returns-then-passed-tick
 returns-then-passed-tick c =
     let b = c.args.record.now in
-    let f = c.in-ok-passed.ensures in
+    let f = c.in_ok-passed.ensures in
     record {
       low = tt;
       answer =
-          answer_past (read_any b) c.args.tick c.in-ok-passed.passed.ticks f.0
+          answer_past (read_any b) c.args.tick c.in_ok-passed.passed.ticks f.0
           (any_body b (omega (arith, c.if-record-eq0.false)) (omega (arith, c.if-kind-lt1.false)) (omega (arith, c.if-kind-gt127.false)) ∙ f.1.reads)
           f.1.ticks c.if-passed-tick.true;
     }
@@ -49,11 +49,11 @@ returns-then-passed-tick c =
 pub returns : goal.returns
 returns c =
     let b = c.args.record.now in
-    let f = c.in-ok-passed.ensures in
+    let f = c.in_ok-passed.ensures in
     record {
       low = f.1.low;
       answer =
-          answer_step (read_any b) c.args.tick c.in-ok-passed.passed.ticks c.in-ok-passed.passed.step f.0
+          answer_step (read_any b) c.args.tick c.in_ok-passed.passed.ticks c.in_ok-passed.passed.step f.0
           (any_body b (omega (arith, c.if-record-eq0.false)) (omega (arith, c.if-kind-lt1.false)) (omega (arith, c.if-kind-gt127.false)) ∙ f.1.reads)
           f.1.step c.if-passed-tick.false;
     }

@@ -9,8 +9,8 @@ returns c =
     let f = c.args.frame.now in
     let bytes = number_bytes c.args.n in
     record {
-      place = ap (λ (x : ℕ). c.args.at + x) c.write-number.ensures.count;
+      place = ap (λ (x : ℕ). c.args.at + x) c.write_number.ensures.count;
       bytes =
-          laid_part c.args.at bytes f c.write-number.new.out (omega (arith, c.requires))
-          (c.write-number.ensures.bytes ∙ ap (λ (xs : List ℕ). bytes ++ drop (length bytes) xs) (take_rest f c.args.at));
+          laid_part c.args.at bytes f c.write_number.new.out (omega (arith, c.requires))
+          (c.write_number.ensures.bytes ∙ ap (λ (xs : List ℕ). bytes ++ drop (length bytes) xs) (take_rest f c.args.at));
     }

@@ -16,15 +16,15 @@ returns-then-byte-eq0 c =
     let b = get_or c.args.bytes.now l.at 0 in
     record { reads = padded c.args.bytes.now c.args.start l.at l.k l.n l.scale b l.invariant c.loop-k-test.true (omega arith) refl c.if-k-gt0.true c.if-byte-eq0.true; exact = tt }
 
-pub overflow-mul-result : goal.overflow-mul-result
-overflow-mul-result c =
+pub overflow_mul-result : goal.overflow_mul-result
+overflow_mul-result c =
     let l = c.loop-k in
     let b = get_or c.args.bytes.now l.at 0 in
     let w = within c.args.bytes.now c.args.start l.at l.k l.n l.scale b l.invariant c.loop-k-test.true (omega arith) in
     omega (arith, w.2)
 
-pub overflow-add-result : goal.overflow-add-result
-overflow-add-result c =
+pub overflow_add-result : goal.overflow_add-result
+overflow_add-result c =
     let l = c.loop-k in
     let b = get_or c.args.bytes.now l.at 0 in
     let w = within c.args.bytes.now c.args.start l.at l.k l.n l.scale b l.invariant c.loop-k-test.true (omega arith) in
@@ -37,22 +37,22 @@ returns-then-byte-lt128 c =
     let f = closed c.args.bytes.now c.args.start l.at l.k l.n l.scale b l.invariant c.loop-k-test.true (omega arith) refl c.if-byte-lt128.true (λ p. omega (arith, c.else-k-gt0.either)) in
     record { reads = f.0; exact = (f.1, f.2) }
 
-pub overflow-mul-n : goal.overflow-mul-n
-overflow-mul-n c =
+pub overflow_mul-n : goal.overflow_mul-n
+overflow_mul-n c =
     let l = c.loop-k in
     let b = get_or c.args.bytes.now l.at 0 in
     let w = within c.args.bytes.now c.args.start l.at l.k l.n l.scale (b - 128) l.invariant c.loop-k-test.true (omega arith) in
     omega (arith, w.2)
 
-pub overflow-add-n : goal.overflow-add-n
-overflow-add-n c =
+pub overflow_add-n : goal.overflow_add-n
+overflow_add-n c =
     let l = c.loop-k in
     let b = get_or c.args.bytes.now l.at 0 in
     let w = within c.args.bytes.now c.args.start l.at l.k l.n l.scale (b - 128) l.invariant c.loop-k-test.true (omega arith) in
     omega (arith, w.1, w.2)
 
-pub overflow-mul-scale : goal.overflow-mul-scale
-overflow-mul-scale c =
+pub overflow_mul-scale : goal.overflow_mul-scale
+overflow_mul-scale c =
     let l = c.loop-k in
     let w = within c.args.bytes.now c.args.start l.at l.k l.n l.scale 0 l.invariant c.loop-k-test.true (omega arith) in
     omega (arith, w.0)

@@ -6,19 +6,19 @@ use Rattle.survey.proofs.Counted.{work_small, works_small}
 use Rattle.survey.proofs.Merged.{work_more, front_stops}
 use Rattle.survey.proofs.merge.advance.Goals as goal
 
-pub returns-then-time-of-t : goal.returns-then-time-of-t
+pub returns-then-time_of-t : goal.returns-then-time_of-t
 unfolding job_at
-returns-then-time-of-t c =
+returns-then-time_of-t c =
     front_stops c.args.up c.args.jobs.now c.args.t c.loop-i.i c.loop-i.work (ordered_from c.args.jobs.now c.requires.order) (omega arith)
     c.loop-i.invariant.0 c.loop-i.invariant.1 (λ l. omega arith)
 
-pub overflow-cast-work : goal.overflow-cast-work
+pub overflow_cast-work : goal.overflow_cast-work
 unfolding job_at
-overflow-cast-work c = let w = work_small c.args.jobs.now c.requires.order c.loop-i.i c.loop-i-test.true in omega arith
+overflow_cast-work c = let w = work_small c.args.jobs.now c.requires.order c.loop-i.i c.loop-i-test.true in omega arith
 
-pub overflow-add-work : goal.overflow-add-work
+pub overflow_add-work : goal.overflow_add-work
 unfolding job_at
-overflow-add-work c =
+overflow_add-work c =
     let w = work_small c.args.jobs.now c.requires.order c.loop-i.i c.loop-i-test.true in
     let s = works_small c.args.jobs.now c.requires.order c.loop-i.i (omega arith) in
     omega arith

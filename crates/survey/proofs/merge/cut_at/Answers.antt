@@ -4,8 +4,8 @@ use Rattle.survey.proofs.Counted.{span_soon, cut_is}
 use Rattle.survey.proofs.merge.cut_at.Goals as goal
 use Rattle.survey.proofs.merge.cut_at.Goals.{then-before-after, else-before-after}
 
-pub overflow-cast-result : goal.overflow-cast-result
-overflow-cast-result c = let s = span_soon c.args.jobs.now c.requires.order in omega arith
+pub overflow_cast-result : goal.overflow_cast-result
+overflow_cast-result c = let s = span_soon c.args.jobs.now c.requires.order in omega arith
 
 pub returns : goal.returns
 returns c =

@@ -9,7 +9,7 @@ use Rattle.sweep.proofs.sweep.reach.Goals as goal
 pub returns-then-puts : goal.returns-then-puts
 returns-then-puts g c =
     let f = reached_in (inner g.W.Wall.upper) c.args.puts c.args.x c.args.apex (view c.args.own.now) (view c.args.other.now) c.if-puts.true in
-    let t = c.take-in.ensures in
+    let t = c.take_in.ensures in
     record {
       apex = t.apex ∙ sym (ap (λ (w : Funnel). w.apex) f);
       own = t.own ∙ sym (ap (λ (w : Funnel). w.own) f);

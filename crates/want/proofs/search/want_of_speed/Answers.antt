@@ -7,61 +7,61 @@ use Rattle.want.proofs.Loads.{load_none, load_more, load_small, top_small, time_
 use Rattle.want.proofs.search.want_of_speed.Goals as goal
 
 pub search-init : goal.search-init
-search-init g c = (refl, first_start (starved (g.P.Processor.steps c.args.processor.now) c.args.jobs.now), bounded_none c.top-speed-top.result c.args.jobs.now)
+search-init g c = (refl, first_start (starved (g.P.Processor.steps c.args.processor.now) c.args.jobs.now), bounded_none c.top_speed-top.result c.args.jobs.now)
 
-pub overflow-mul-top : goal.overflow-mul-top
+pub overflow_mul-top : goal.overflow_mul-top
 unfolding job_at
-overflow-mul-top g c =
+overflow_mul-top g c =
     let t = top_small (g.P.Processor.steps c.args.processor.now) (g.met.P.Processor.lawful c.args.processor.now) in
-    let a = arrival_small c.args.jobs.now c.requires.order c.top-speed-top.result c.search.j (omega arith) c.search-test.true in
+    let a = arrival_small c.args.jobs.now c.requires.order c.top_speed-top.result c.search.j (omega arith) c.search-test.true in
     omega (arith, a.0)
 
-pub overflow-sub-work : goal.overflow-sub-work
-overflow-sub-work g c =
+pub overflow_sub-work : goal.overflow_sub-work
+overflow_sub-work g c =
     let s = work_small c.args.jobs.now c.requires.order c.search.j (omega arith) in
     omega (arith, c.search.invariant.2.done, c.requires.few)
 
-pub overflow-add-top : goal.overflow-add-top
+pub overflow_add-top : goal.overflow_add-top
 unfolding job_at
-overflow-add-top g c =
+overflow_add-top g c =
     let t = top_small (g.P.Processor.steps c.args.processor.now) (g.met.P.Processor.lawful c.args.processor.now) in
-    let a = arrival_small c.args.jobs.now c.requires.order c.top-speed-top.result c.search.j (omega arith) c.search-test.true in
+    let a = arrival_small c.args.jobs.now c.requires.order c.top_speed-top.result c.search.j (omega arith) c.search-test.true in
     omega (arith, a.0)
 
-pub overflow-add-work : goal.overflow-add-work
+pub overflow_add-work : goal.overflow_add-work
 unfolding job_at
-overflow-add-work g c =
+overflow_add-work g c =
     let t = top_small (g.P.Processor.steps c.args.processor.now) (g.met.P.Processor.lawful c.args.processor.now) in
     let b =
-    bounded_more c.top-speed-top.result c.args.jobs.now c.search.j c.search.work c.search.bound c.larger-bound.result c.requires.order (omega arith) c.search-test.true c.search.invariant.2
+    bounded_more c.top_speed-top.result c.args.jobs.now c.search.j c.search.work c.search.bound c.larger-bound.result c.requires.order (omega arith) c.search-test.true c.search.invariant.2
     c.larger-bound.ensures
     in
     let s = work_small c.args.jobs.now c.requires.order (c.search.j + 1) (omega arith) in
     omega (arith, b.done, c.requires.few)
 
-pub overflow-add-work-in-search : goal.overflow-add-work-in-search
+pub overflow_add-work-in-search : goal.overflow_add-work-in-search
 unfolding job_at
-overflow-add-work-in-search g c =
+overflow_add-work-in-search g c =
     let t = top_small (g.P.Processor.steps c.args.processor.now) (g.met.P.Processor.lawful c.args.processor.now) in
     let b =
-    bounded_more c.top-speed-top.result c.args.jobs.now c.search.j c.search.work c.search.bound c.larger-bound.result c.requires.order (omega arith) c.search-test.true c.search.invariant.2
+    bounded_more c.top_speed-top.result c.args.jobs.now c.search.j c.search.work c.search.bound c.larger-bound.result c.requires.order (omega arith) c.search-test.true c.search.invariant.2
     c.larger-bound.ensures
     in
     let s = work_small c.args.jobs.now c.requires.order (c.search.j + 1) (omega arith) in
     omega (arith, b.done, b.most, c.requires.few)
 
-pub overflow-mul-top-in-search : goal.overflow-mul-top-in-search
+pub overflow_mul-top-in-search : goal.overflow_mul-top-in-search
 unfolding job_at
-overflow-mul-top-in-search g c =
+overflow_mul-top-in-search g c =
     let t = top_small (g.P.Processor.steps c.args.processor.now) (g.met.P.Processor.lawful c.args.processor.now) in
-    let a = arrival_small c.args.jobs.now c.requires.order c.top-speed-top.result c.search.j (omega arith) c.search-test.true in
+    let a = arrival_small c.args.jobs.now c.requires.order c.top_speed-top.result c.search.j (omega arith) c.search-test.true in
     omega (arith, a.1)
 
-pub overflow-add-top-in-search : goal.overflow-add-top-in-search
+pub overflow_add-top-in-search : goal.overflow_add-top-in-search
 unfolding job_at
-overflow-add-top-in-search g c =
+overflow_add-top-in-search g c =
     let t = top_small (g.P.Processor.steps c.args.processor.now) (g.met.P.Processor.lawful c.args.processor.now) in
-    let a = arrival_small c.args.jobs.now c.requires.order c.top-speed-top.result c.search.j (omega arith) c.search-test.true in
+    let a = arrival_small c.args.jobs.now c.requires.order c.top_speed-top.result c.search.j (omega arith) c.search-test.true in
     omega (arith, a.1)
 
 pub search-preserved-then-work-bound : goal.search-preserved-then-work-bound
@@ -71,31 +71,31 @@ search-preserved-then-work-bound g c =
     let jobs = c.args.jobs.now in
     let t = top_small (g.P.Processor.steps c.args.processor.now) (g.met.P.Processor.lawful c.args.processor.now) in
     let b =
-    bounded_more c.top-speed-top.result c.args.jobs.now c.search.j c.search.work c.search.bound c.larger-bound.result c.requires.order (omega arith) c.search-test.true c.search.invariant.2
+    bounded_more c.top_speed-top.result c.args.jobs.now c.search.j c.search.work c.search.bound c.larger-bound.result c.requires.order (omega arith) c.search-test.true c.search.invariant.2
     c.larger-bound.ensures
     in
-    let p = cleared steps jobs c.top-speed-top.result c.search.j _ c.larger-bound.result c.requires.order c.requires.few c.top-speed-top.ensures c.search-test.true b c.if-work-bound.true in
+    let p = cleared steps jobs c.top_speed-top.result c.search.j _ c.larger-bound.result c.requires.order c.requires.few c.top_speed-top.ensures c.search-test.true b c.if-work-bound.true in
     (c.search.invariant.0, first_more c.search.j (starved steps jobs) c.search.invariant.1 (not_starved steps jobs c.search.j p), b)
 
 pub loop-i-init : goal.loop-i-init
 loop-i-init g c = (c.search.invariant.0, sym (load_none c.args.jobs.now c.search.j), passed_none (g.P.Processor.steps c.args.processor.now) c.args.jobs.now c.search.j)
 
-pub overflow-add-load : goal.overflow-add-load
+pub overflow_add-load : goal.overflow_add-load
 unfolding job_at
-overflow-add-load g c =
+overflow_add-load g c =
     let e = load_more c.args.jobs.now c.loop-i.i c.search.j c.loop-i.load c.loop-i-test.true c.loop-i.auto.i c.loop-i.invariant.1 in
     let s = load_small c.args.jobs.now c.requires.order (c.loop-i.i - 1) c.search.j (omega arith) c.search-test.true in
     omega arith
 
-pub overflow-sub-deadline : goal.overflow-sub-deadline
+pub overflow_sub-deadline : goal.overflow_sub-deadline
 unfolding job_at
-overflow-sub-deadline g c = time_left c.args.jobs.now c.requires.order (c.loop-i.i - 1) c.search.j (omega arith) c.search-test.true
+overflow_sub-deadline g c = time_left c.args.jobs.now c.requires.order (c.loop-i.i - 1) c.search.j (omega arith) c.search-test.true
 
-pub overflow-mul-top-in-loop-i : goal.overflow-mul-top-in-loop-i
+pub overflow_mul-top-in-loop-i : goal.overflow_mul-top-in-loop-i
 unfolding job_at
-overflow-mul-top-in-loop-i g c =
+overflow_mul-top-in-loop-i g c =
     let t = top_small (g.P.Processor.steps c.args.processor.now) (g.met.P.Processor.lawful c.args.processor.now) in
-    let r = room_small c.args.jobs.now c.requires.order c.top-speed-top.result (c.loop-i.i - 1) c.search.j (omega arith) c.search-test.true in
+    let r = room_small c.args.jobs.now c.requires.order c.top_speed-top.result (c.loop-i.i - 1) c.search.j (omega arith) c.search-test.true in
     omega arith
 
 pub loop-i-preserved : goal.loop-i-preserved
@@ -103,7 +103,7 @@ unfolding job_at
 loop-i-preserved g c =
     let e = load_more c.args.jobs.now c.loop-i.i c.search.j c.loop-i.load c.loop-i-test.true c.loop-i.auto.i c.loop-i.invariant.1 in
     let steps = g.P.Processor.steps c.args.processor.now in
-    let f = fits steps c.args.jobs.now c.top-speed-top.result (c.loop-i.i - 1) c.search.j _ c.top-speed-top.ensures e c.if-top-deadline.false in
+    let f = fits steps c.args.jobs.now c.top_speed-top.result (c.loop-i.i - 1) c.search.j _ c.top_speed-top.ensures e c.if-top-deadline.false in
     (c.loop-i.invariant.0, e, passed_more steps c.args.jobs.now c.loop-i.i c.search.j c.loop-i-test.true c.loop-i.invariant.2 f)
 
 pub search-preserved : goal.search-preserved
@@ -112,7 +112,7 @@ search-preserved g c =
     let steps = g.P.Processor.steps c.args.processor.now in
     let t = top_small (g.P.Processor.steps c.args.processor.now) (g.met.P.Processor.lawful c.args.processor.now) in
     let b =
-    bounded_more c.top-speed-top.result c.args.jobs.now c.search.j c.search.work c.search.bound c.larger-bound.result c.requires.order (omega arith) c.search-test.true c.search.invariant.2
+    bounded_more c.top_speed-top.result c.args.jobs.now c.search.j c.search.work c.search.bound c.larger-bound.result c.requires.order (omega arith) c.search-test.true c.search.invariant.2
     c.larger-bound.ensures
     in
     let z : c.loop-i.i ≡ 0 = omega arith in
@@ -130,5 +130,5 @@ unfolding job_at
 returns-then-top-deadline g c =
     let e = load_more c.args.jobs.now c.loop-i.i c.search.j c.loop-i.load c.loop-i-test.true c.loop-i.auto.i c.loop-i.invariant.1 in
     let steps = g.P.Processor.steps c.args.processor.now in
-    let o = overflows steps c.args.jobs.now c.top-speed-top.result (c.loop-i.i - 1) c.search.j _ c.top-speed-top.ensures e c.if-top-deadline.true in
+    let o = overflows steps c.args.jobs.now c.top_speed-top.result (c.loop-i.i - 1) c.search.j _ c.top_speed-top.ensures e c.if-top-deadline.true in
     wanted_here steps c.args.jobs.now c.search.j c.search-test.true c.search.invariant.1 (is_starved steps c.args.jobs.now (c.loop-i.i - 1) c.search.j (omega arith) o)

@@ -5,11 +5,11 @@ use Rattle.draw.proofs.Pieces.{begin_first, begin_later, lane_is}
 use Rattle.draw.proofs.lane.Lane.at.Goals as goal
 use Rattle.draw.proofs.lane.Lane.at.Goals.{then-number-gt0, else-number-gt0}
 
-pub overflow-add-slow : goal.overflow-add-slow
-overflow-add-slow g c =
+pub overflow_add-slow : goal.overflow_add-slow
+overflow_add-slow g c =
     let lawful = g.met.P.Processor.lawful c.args.processor.now in
     let k = slow_known (g.P.Processor.steps c.args.processor.now) lawful (record { from = c.if-number-gt0.from; to = get_or c.args.corners.now c.args.number (record { time = 0; height = 0 }) }) in
-    omega (arith, lawful.most, c.slow-step-slow.ensures)
+    omega (arith, lawful.most, c.slow_step-slow.ensures)
 
 pub returns : goal.returns
 returns g c =
@@ -18,5 +18,5 @@ returns g c =
       | else-number-gt0 w ↦ w.from-is ∙ begin_first c.args.corners.now c.args.number (omega (arith, w.if-number-gt0.false))
     ] in
     lane_is (g.P.Processor.steps c.args.processor.now) c.args.corners.now c.args.number c.if-number-gt0.from
-    c.slow-step-slow.result c.speed-speed.result c.speed.result c.saturating-sub-gap.result
-    e c.slow-step-slow.ensures c.speed-speed.ensures c.speed.ensures c.saturating-sub-gap.ensures
+    c.slow_step-slow.result c.speed-speed.result c.speed.result c.saturating_sub-gap.result
+    e c.slow_step-slow.ensures c.speed-speed.ensures c.speed.ensures c.saturating_sub-gap.ensures

@@ -13,17 +13,17 @@ height_bound c =
 run_bound : (c : goal.After-from-2) → 0 < c.from-run.result
 run_bound c = omega (arith, c.from-run.ensures, c.requires.fair.onward)
 
-pub overflow-add-height : goal.overflow-add-height
-overflow-add-height c = omega (arith, height_bound c)
+pub overflow_add-height : goal.overflow_add-height
+overflow_add-height c = omega (arith, height_bound c)
 
-pub overflow-mul-result : goal.overflow-mul-result
-overflow-mul-result c = omega (arith, height_bound c)
+pub overflow_mul-result : goal.overflow_mul-result
+overflow_mul-result c = omega (arith, height_bound c)
 
-pub nonzero-div-result : goal.nonzero-div-result
-nonzero-div-result c = mul-pos (run_bound c) c.requires.fair.some_gap
+pub nonzero_div-result : goal.nonzero_div-result
+nonzero_div-result c = mul-pos (run_bound c) c.requires.fair.some_gap
 
-pub overflow-mul-result-3 : goal.overflow-mul-result-3
-overflow-mul-result-3 c =
+pub overflow_mul-result-3 : goal.overflow_mul-result-3
+overflow_mul-result-3 c =
     let a = round_safe (5040 * (c.from.result * c.from-left.result + c.from-2.result * c.from-past.result)) c.from-run.result c.args.self.now.gap (run_bound c) in
     omega (arith, height_bound c)
 

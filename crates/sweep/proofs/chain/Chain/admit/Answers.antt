@@ -19,8 +19,8 @@ tighten-n-requires g c =
       bent = subst (λ (ys : List Point). Ready g.W.Wall.upper c.args.apex ys c.args.x) (sym (lent_front s.points s.start s.end (1025 - s.start) (omega (arith, c.requires.room)))) c.requires.bent;
     }
 
-pub invariant-of-self : goal.invariant-of-self
-invariant-of-self g c =
+pub invariant_of-self : goal.invariant_of-self
+invariant_of-self g c =
     let s = c.args.self.now in
     let f = s.full in
     let w = s.forward in
