@@ -18,9 +18,9 @@ pub(crate) fn pass<W: Wall>(
     out: &mut Chain,
 ) -> Point
     requires { out.old.end + (other.old.end - other.old.start) ≤ 1025 }
-    ensures apex { result ≡ (pass (inner upper) x apex (view other.old)).apex }
-    ensures other { view other.new ≡ (pass (inner upper) x apex (view other.old)).rest }
-    ensures out { view out.new ≡ view out.old ++ (pass (inner upper) x apex (view other.old)).out }
+    ensures apex { result ≡ (pass (inner W.Wall.upper) x apex (view other.old)).apex }
+    ensures other { view other.new ≡ (pass (inner W.Wall.upper) x apex (view other.old)).rest }
+    ensures out { view out.new ≡ view out.old ++ (pass (inner W.Wall.upper) x apex (view other.old)).out }
     ensures places { (other.new.end ≡ other.old.end) × (out.new.start ≡ out.old.start) × (out.new.end + other.old.start ≡ out.old.end + other.new.start) }
 {
     let mut apex = apex;

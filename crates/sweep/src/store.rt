@@ -45,10 +45,10 @@ impl Chain {
     // Puts a wall's point at the end, drops what that makes needless, and answers whether it is now alone.
     pub(crate) fn admit<W: Wall>(&mut self, wall: &W, apex: Point, x: Point) -> bool
         requires room { self.old.end < 1025 }
-        requires bent { Ready upper apex (view self.old) x }
-        ensures points { view self.new ≡ tighten (inner upper) apex (view self.old) x }
+        requires bent { Ready W.Wall.upper apex (view self.old) x }
+        ensures points { view self.new ≡ tighten (inner W.Wall.upper) apex (view self.old) x }
         ensures places { (self.new.start ≡ self.old.start) × (self.new.end ≤ self.old.end + 1) }
-        ensures single { result ≡ alone (tighten (inner upper) apex (view self.old) x) }
+        ensures single { result ≡ alone (tighten (inner W.Wall.upper) apex (view self.old) x) }
     {
         let start = self.start;
         let len = self.end - start;

@@ -23,12 +23,12 @@ fn take_in<W: Wall>(
     out: &mut Chain,
 ) -> Point
     requires room { own.old.end < 1025 }
-    requires bent { Ready upper apex (view own.old) x }
+    requires bent { Ready W.Wall.upper apex (view own.old) x }
     requires free { out.old.end + (other.old.end - other.old.start) ≤ 1025 }
-    ensures apex { result ≡ (take_in (inner upper) apex (view own.old) (view other.old) x).apex }
-    ensures own { view own.new ≡ (take_in (inner upper) apex (view own.old) (view other.old) x).own }
-    ensures other { view other.new ≡ (take_in (inner upper) apex (view own.old) (view other.old) x).other }
-    ensures out { view out.new ≡ view out.old ++ (take_in (inner upper) apex (view own.old) (view other.old) x).out }
+    ensures apex { result ≡ (take_in (inner W.Wall.upper) apex (view own.old) (view other.old) x).apex }
+    ensures own { view own.new ≡ (take_in (inner W.Wall.upper) apex (view own.old) (view other.old) x).own }
+    ensures other { view other.new ≡ (take_in (inner W.Wall.upper) apex (view own.old) (view other.old) x).other }
+    ensures out { view out.new ≡ view out.old ++ (take_in (inner W.Wall.upper) apex (view own.old) (view other.old) x).out }
     ensures places { (own.new.start ≡ own.old.start) × (own.new.end ≤ own.old.end + 1) × (other.new.end ≡ other.old.end) × (out.new.start ≡ out.old.start) × (out.new.end + other.old.start ≡ out.old.end + other.new.start) }
 {
     if own.admit(wall, apex, x) {
@@ -48,12 +48,12 @@ fn reach<W: Wall>(
     out: &mut Chain,
 ) -> Point
     requires room { own.old.end < 1025 }
-    requires bent { Ready upper apex (view own.old) x }
+    requires bent { Ready W.Wall.upper apex (view own.old) x }
     requires free { out.old.end + (other.old.end - other.old.start) ≤ 1025 }
-    ensures apex { result ≡ (reached (inner upper) puts x apex (view own.old) (view other.old)).apex }
-    ensures own { view own.new ≡ (reached (inner upper) puts x apex (view own.old) (view other.old)).own }
-    ensures other { view other.new ≡ (reached (inner upper) puts x apex (view own.old) (view other.old)).other }
-    ensures out { view out.new ≡ view out.old ++ (reached (inner upper) puts x apex (view own.old) (view other.old)).out }
+    ensures apex { result ≡ (reached (inner W.Wall.upper) puts x apex (view own.old) (view other.old)).apex }
+    ensures own { view own.new ≡ (reached (inner W.Wall.upper) puts x apex (view own.old) (view other.old)).own }
+    ensures other { view other.new ≡ (reached (inner W.Wall.upper) puts x apex (view own.old) (view other.old)).other }
+    ensures out { view out.new ≡ view out.old ++ (reached (inner W.Wall.upper) puts x apex (view own.old) (view other.old)).out }
     ensures places { (own.new.start ≡ own.old.start) × (own.new.end ≤ own.old.end + 1) × (other.new.end ≡ other.old.end) × (out.new.start ≡ out.old.start) × (out.new.end + other.old.start ≡ out.old.end + other.new.start) }
 {
     if puts {

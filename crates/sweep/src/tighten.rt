@@ -24,7 +24,7 @@ fn times(a: u32, b: u32) -> u128
 
 // Whether, seen from `p`, the point `q` lies strictly inward of `r`.
 pub(crate) fn inward<W: Wall>(wall: &W, p: Point, q: Point, r: Point) -> bool
-    ensures { result ≡ inward (inner upper) p q r }
+    ensures { result ≡ inward (inner W.Wall.upper) p q r }
 {
     let near = run(p, q);
     let far = run(p, r);
@@ -46,8 +46,8 @@ fn before(apex: Point, chain: &[Point], k: usize) -> Point
 fn kept<W: Wall>(wall: &W, apex: Point, chain: &[Point], len: usize, x: Point) -> usize
     requires { len ≤ length chain.now }
     ensures few { result ≤ len }
-    ensures stays { (i : ℕ) → result ≡ suc i → inward (inner upper) (slice_index_or (apex ∷ chain.now) i start) (slice_index_or chain.now i start) x ≡ true }
-    ensures goes { result < len → inward (inner upper) (slice_index_or (apex ∷ chain.now) result start) (slice_index_or chain.now result start) x ≡ false }
+    ensures stays { (i : ℕ) → result ≡ suc i → inward (inner W.Wall.upper) (slice_index_or (apex ∷ chain.now) i start) (slice_index_or chain.now i start) x ≡ true }
+    ensures goes { result < len → inward (inner W.Wall.upper) (slice_index_or (apex ∷ chain.now) result start) (slice_index_or chain.now result start) x ≡ false }
 {
     let mut k = len;
     while k > 0 {
@@ -63,8 +63,8 @@ fn kept<W: Wall>(wall: &W, apex: Point, chain: &[Point], len: usize, x: Point) -
 // the chain then has.
 pub fn tighten<W: Wall>(wall: &W, apex: Point, chain: &mut [Point], len: usize, x: Point) -> usize
     requires room { len < length chain.old }
-    requires bent { Ready upper apex (take len chain.old) x }
-    ensures after { take result chain.new ≡ tighten (inner upper) apex (take len chain.old) x }
+    requires bent { Ready W.Wall.upper apex (take len chain.old) x }
+    ensures after { take result chain.new ≡ tighten (inner W.Wall.upper) apex (take len chain.old) x }
     ensures few { (0 < result) × (result ≤ len + 1) }
 {
     let k = kept(wall, apex, chain, len, x);

@@ -24,10 +24,7 @@ invariant_of-self g c =
     let s = c.args.self.now in
     let f = s.full in
     let w = s.forward in
-    let m = c.tighten-n.ensures.few in (
-      same_len_mid s.start (1025 - s.start) s.points c.tighten-n.new.chain c.tighten-n.auto.chain ∙ f,
-      (omega arith, (omega (arith, c.requires.room), tt)),
-    )
+    let m = c.tighten-n.ensures.few in record { full = same_len_mid s.start (1025 - s.start) s.points c.tighten-n.new.chain c.tighten-n.auto.chain ∙ f; forward = omega arith; within = omega (arith, c.requires.room) }
 
 pub returns : goal.returns
 returns g c =
