@@ -5,8 +5,8 @@ use Rattle.print.proofs.plan.put_segments.Goals as goal
 pub loop-k-init : goal.loop-k-init
 loop-k-init c = none_put c.args.out.now c.args.segments.now
 
-pub put-segment-at-requires : goal.put-segment-at-requires
-put-segment-at-requires c =
+pub put_segment-at-requires : goal.put_segment-at-requires
+put_segment-at-requires c =
     let l = c.loop-k in
     let f = next_fits c.args.out.now l.out c.args.segments.now l.k l.at l.invariant (omega arith) c.requires in
     omega (arith, l.auto.out, f)
@@ -14,8 +14,8 @@ put-segment-at-requires c =
 pub loop-k-preserved : goal.loop-k-preserved
 loop-k-preserved c =
     let l = c.loop-k in
-    one_put c.args.out.now l.out c.put-segment-at.new.out c.args.segments.now l.k l.at c.put-segment-at.result l.invariant (omega arith) c.requires
-    (record { place = c.put-segment-at.ensures.place; bytes = c.put-segment-at.ensures.bytes })
+    one_put c.args.out.now l.out c.put_segment-at.new.out c.args.segments.now l.k l.at c.put_segment-at.result l.invariant (omega arith) c.requires
+    (record { place = c.put_segment-at.ensures.place; bytes = c.put_segment-at.ensures.bytes })
 
 pub returns : goal.returns
 returns c =

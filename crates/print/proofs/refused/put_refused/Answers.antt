@@ -21,20 +21,20 @@ short room long bytes e l = ap (λ (x : ℕ). Some (told 24 x)) e ∙ sym (first
 enough : (room long bytes : ℕ) → bytes ≡ long → bytes ≤ room → None ≡ first_of (ruled (ltb room long) 24 long ∷ [])
 enough room long bytes e l = sym (first_pass (ruled (ltb room long) 24 long) [] (le-ltb room long (omega arith)))
 
-pub overflow-add-bytes : goal.overflow-add-bytes
-overflow-add-bytes c =
+pub overflow_add-bytes : goal.overflow_add-bytes
+overflow_add-bytes c =
     let l = length-decimal-le 20 c.from-number.result (lit< tt) (omega arith) (omega arith) in
-    omega (arith, c.number-length.ensures)
+    omega (arith, c.number_length.ensures)
 
-pub overflow-add-bytes-2 : goal.overflow-add-bytes-2
-overflow-add-bytes-2 c =
+pub overflow_add-bytes-2 : goal.overflow_add-bytes-2
+overflow_add-bytes-2 c =
     let l = length-decimal-le 20 c.from-number.result (lit< tt) (omega arith) (omega arith) in
     let m = length-decimal-le 20 c.args.line (lit< tt) (omega arith) (omega arith) in
-    omega (arith, c.number-length.ensures, c.number-length-2.ensures)
+    omega (arith, c.number_length.ensures, c.number_length-2.ensures)
 
 pub returns-then-out-bytes : goal.returns-then-out-bytes
 returns-then-out-bytes c =
-    let k = counted c.args.number c.from-number.result c.args.line c.number-length.result c.number-length-2.result c.from-number.ensures c.number-length.ensures c.number-length-2.ensures in
+    let k = counted c.args.number c.from-number.result c.args.line c.number_length.result c.number_length-2.result c.from-number.ensures c.number_length.ensures c.number_length-2.ensures in
     record { answer = short (length c.args.out.now) _ _ k c.if-out-bytes.true; figure = tt; bytes = refl }
 
 pub returns : goal.returns
@@ -42,15 +42,15 @@ unfolding refused_text
 returns c =
     let n = c.from-number.result in
     let f = c.args.out.now in
-    let k = counted c.args.number n c.args.line c.number-length.result c.number-length-2.result c.from-number.ensures c.number-length.ensures c.number-length-2.ensures in
-    let p : Put (f) c.put-word-at.new.out (0) c.put-word-at.result (codes "refused ") = record { place = c.put-word-at.ensures.place; bytes = c.put-word-at.ensures.bytes } in
-    let q : Put c.put-word-at.new.out c.put-number-space.new.out c.put-word-at.result c.put-number-space.result (decimal n) = record { place = c.put-number-space.ensures.place; bytes = c.put-number-space.ensures.bytes } in
-    let r : Put c.put-number-space.new.out c.put-byte-place.new.out c.put-number-space.result c.put-byte-place.result (32 ∷ []) = record { place = c.put-byte-place.ensures.place; bytes = c.put-byte-place.ensures.bytes } in
-    let s : Put c.put-byte-place.new.out c.put-number-end.new.out c.put-byte-place.result c.put-number-end.result (decimal c.args.line) = record { place = c.put-number-end.ensures.place; bytes = c.put-number-end.ensures.bytes } in
-    let u : Put c.put-number-end.new.out c.put-byte.new.out c.put-number-end.result c.put-byte.result (10 ∷ []) = record { place = c.put-byte.ensures.place; bytes = c.put-byte.ensures.bytes } in
+    let k = counted c.args.number n c.args.line c.number_length.result c.number_length-2.result c.from-number.ensures c.number_length.ensures c.number_length-2.ensures in
+    let p : Put (f) c.put_word-at.new.out (0) c.put_word-at.result (codes "refused ") = record { place = c.put_word-at.ensures.place; bytes = c.put_word-at.ensures.bytes } in
+    let q : Put c.put_word-at.new.out c.put_number-space.new.out c.put_word-at.result c.put_number-space.result (decimal n) = record { place = c.put_number-space.ensures.place; bytes = c.put_number-space.ensures.bytes } in
+    let r : Put c.put_number-space.new.out c.put_byte-place.new.out c.put_number-space.result c.put_byte-place.result (32 ∷ []) = record { place = c.put_byte-place.ensures.place; bytes = c.put_byte-place.ensures.bytes } in
+    let s : Put c.put_byte-place.new.out c.put_number-end.new.out c.put_byte-place.result c.put_number-end.result (decimal c.args.line) = record { place = c.put_number-end.ensures.place; bytes = c.put_number-end.ensures.bytes } in
+    let u : Put c.put_number-end.new.out c.put_byte.new.out c.put_number-end.result c.put_byte.result (10 ∷ []) = record { place = c.put_byte.ensures.place; bytes = c.put_byte.ensures.bytes } in
     let h = c.if-out-bytes.false in
-    let la = c.number-length.ensures in
-    let lb = c.number-length-2.ensures in
+    let la = c.number_length.ensures in
+    let lb = c.number_length-2.ensures in
     let x = put_on p q (omega (arith, p.place)) in
     let y = put_on x r (omega (arith, p.place, q.place)) in
     let z = put_on y s (omega (arith, p.place, q.place, r.place)) in

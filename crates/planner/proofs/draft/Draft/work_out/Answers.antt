@@ -16,8 +16,8 @@ use Rattle.planner.proofs.Worthy.{worthy}
 use Rattle.planner.proofs.Worked.{found_within, found_refused, none_found, none_accepted, lent_cuts, lent_few, lent_rising, corners_are, corners_drawable, drawn_plan, drawn_cost}
 use Rattle.planner.proofs.draft.Draft.work_out.Goals as goal
 
-pub overflow-add-result : goal.overflow-add-result
-overflow-add-result g c =
+pub overflow_add-result : goal.overflow_add-result
+overflow_add-result g c =
     let q = c.args.queue.now in
     let l = found_within (g.P.Processor.steps c.args.processor.now) c.jobs-jobs.result.now c.in-Some.job c.in-Some.ensures in
     let e = ap (λ (xs : List Job). length xs) c.jobs-jobs.ensures in
@@ -61,7 +61,7 @@ draw-drawing-requires g c =
     let k = corners_of jobs _ c.survey-n.new.out c.survey-n.result c.points.result.now c.jobs-jobs.ensures q.order c.survey-n.ensures.cuts (c.points.ensures ∙ c.sweep.ensures) in
     record {
       cuts = e;
-      drawable = corners_drawable (g.P.Processor.steps p) jobs c.points.result.now (g.met.P.Processor.lawful p) (ordered_from jobs st) (none_found (g.P.Processor.steps p) jobs c.in-default.ensures) k;
+      drawable = corners_drawable (g.P.Processor.steps p) jobs c.points.result.now (g.met.P.Processor.lawful p) (ordered_from jobs st) (none_found (g.P.Processor.steps p) jobs c.in_default.ensures) k;
       short = span_limit jobs st;
       light = total_limit jobs st (omega (arith, n, q.few, q.jobs.ok.0));
       few = lent_few c.survey-n.new.out c.survey-n.result c.survey-n.ensures.most;
@@ -74,7 +74,7 @@ returns g c =
     let p = c.args.processor.now in
     let jobs = c.jobs-jobs.result.now in
     let st : standing jobs ≡ true = subst (λ (xs : List Job). standing xs ≡ true) (sym c.jobs-jobs.ensures) q.order in
-    let w = none_found (g.P.Processor.steps p) jobs c.in-default.ensures in
+    let w = none_found (g.P.Processor.steps p) jobs c.in_default.ensures in
     let k = corners_of jobs _ c.survey-n.new.out c.survey-n.result c.points.result.now c.jobs-jobs.ensures q.order c.survey-n.ensures.cuts (c.points.ensures ∙ c.sweep.ensures) in
     record {
       answer = none_accepted (g.P.Processor.steps p) jobs w ∙ ap (λ (xs : List Job). first_of (want_line (g.P.Processor.steps p) xs ∷ [])) c.jobs-jobs.ensures;
