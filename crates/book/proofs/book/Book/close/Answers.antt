@@ -24,20 +24,20 @@ use Rattle.book.proofs.book.Book.close.Goals as goal
 said_err : (r : Result ℕ Refusal) (y e : Refusal) → r ≡ Err y → y ≡ e → said_energy r ≡ refused (told_of e)
 said_err r y e p q = ap said_energy p ∙ ap (λ (x : Refusal). refused (told_of x)) q
 
-pub returns-then-is-some : goal.returns-then-is-some
-returns-then-is-some g c =
-    let p = close_open (state c.args.self.now) (g.P.Processor.steps c.args.processor.now) (g.met.P.Processor.lawful c.args.processor.now) (sym c.if-is-some.ensures) in
+pub returns-then-is_some : goal.returns-then-is_some
+returns-then-is_some g c =
+    let p = close_open (state c.args.self.now) (g.P.Processor.steps c.args.processor.now) (g.met.P.Processor.lawful c.args.processor.now) (sym c.if-is_some.ensures) in
     record { answer = p.answers; state = p.becoming; sound = p.sounds }
 
-pub returns-in-err-work-out : goal.returns-in-err-work-out
-returns-in-err-work-out g c =
+pub returns-in_err-work_out : goal.returns-in_err-work_out
+returns-in_err-work_out g c =
     let s = state c.args.self.now in
     let steps = g.P.Processor.steps c.args.processor.now in
-    let y = err_from_is_err_and c.from-residual.result c.from-residual.ensures.1 in
-    let e = c.in-err-work-out.field-0.0 in
+    let y = err_from_is_err_and c.from_residual.result c.from_residual.ensures.1 in
+    let e = c.in_err-work_out.field-0.0 in
     let p =
-    step_at s s s (closes steps) (refused (told_of e)) (said_energy c.from-residual.result) refl (said_err c.from-residual.result y.0 e y.1 y.2)
-    (close_wanting s steps (told_of e) (g.met.P.Processor.lawful c.args.processor.now) (sym c.if-is-some.ensures) c.in-err-work-out.ensures.answer)
+    step_at s s s (closes steps) (refused (told_of e)) (said_energy c.from_residual.result) refl (said_err c.from_residual.result y.0 e y.1 y.2)
+    (close_wanting s steps (told_of e) (g.met.P.Processor.lawful c.args.processor.now) (sym c.if-is_some.ensures) c.in_err-work_out.ensures.answer)
     in
     record { answer = p.answers; state = p.becoming; sound = p.sounds }
 
@@ -54,10 +54,10 @@ returns-then-energy-total g c =
     let b = c.args.self.now in
     let s = state b in
     let steps = g.P.Processor.steps c.args.processor.now in
-    let d = c.in-ok-work-out.ensures in
+    let d = c.in_ok-work_out.ensures in
     let p =
-    close_limit s steps (g.met.P.Processor.lawful c.args.processor.now) (sym c.if-is-some.ensures) d.answer
-    (over (sum_to 65 (λ a. get_or (rows_of b.charges) a 0)) c.work-out.new.self.energy c.energy-energy.result (cost steps s.jobs) c.total.result c.total.ensures c.energy-energy.ensures d.made.1 c.if-energy-total.true b.within)
+    close_limit s steps (g.met.P.Processor.lawful c.args.processor.now) (sym c.if-is_some.ensures) d.answer
+    (over (sum_to 65 (λ a. get_or (rows_of b.charges) a 0)) c.work_out.new.self.energy c.energy-energy.result (cost steps s.jobs) c.total.result c.total.ensures c.energy-energy.ensures d.made.1 c.if-energy-total.true b.within)
     in
     record { answer = p.answers; state = p.becoming; sound = p.sounds }
 
@@ -65,12 +65,12 @@ pub settle-requires : goal.settle-requires
 settle-requires g c =
     let b = c.args.self.now in
     let steps = g.P.Processor.steps c.args.processor.now in
-    let d = c.in-ok-work-out.ensures in
+    let d = c.in_ok-work_out.ensures in
     let j = c.jobs.ensures in
     let st : standing c.jobs.result.now ≡ true = subst (λ (xs : List Job). standing xs ≡ true) (sym j) b.queue.order in
     let e : c.segments.result.now ≡ plan steps c.jobs.result.now = c.segments.ensures ∙ (d.made.0 ∙ ap (λ (xs : List Job). plan steps xs) (sym j)) in
     let u : sum_to 65 (λ a. get_or (rows_of b.charges) a 0) + cost steps (jobs_of b.queue) ≤ charge_limit =
-    under (sum_to 65 (λ a. get_or (rows_of b.charges) a 0)) c.work-out.new.self.energy c.energy-energy.result (cost steps (jobs_of b.queue)) c.total.result c.total.ensures c.energy-energy.ensures d.made.1 c.if-energy-total.false b.within
+    under (sum_to 65 (λ a. get_or (rows_of b.charges) a 0)) c.work_out.new.self.energy c.energy-energy.result (cost steps (jobs_of b.queue)) c.total.result c.total.ensures c.energy-energy.ensures d.made.1 c.if-energy-total.false b.within
     in
     record {
       order = st;
@@ -83,18 +83,15 @@ left_by : (steps : List Level) (jobs standing-jobs : List Job) (segments : List 
 left_by steps jobs held segments rows more j e f =
     f ∙ (ap (λ (xs : List Job). settled steps xs segments rows 65) j ∙ settled_raised steps held segments rows e)
 
-pub invariant-of-self-2 : goal.invariant-of-self-2
-invariant-of-self-2 g c =
+pub invariant_of-self-2 : goal.invariant_of-self-2
+invariant_of-self-2 g c =
     let b = c.args.self.now in
     let steps = g.P.Processor.steps c.args.processor.now in
-    let d = c.in-ok-work-out.ensures in
+    let d = c.in_ok-work_out.ensures in
     let r = left_by steps c.jobs.result.now (jobs_of b.queue) c.segments.result.now (rows_of b.charges) (rows_of c.settle.new.charges) c.jobs.ensures (c.segments.ensures ∙ d.made.0) c.settle.ensures.all in
     let u : sum_to 65 (λ a. get_or (rows_of b.charges) a 0) + cost steps (jobs_of b.queue) ≤ charge_limit =
-    under (sum_to 65 (λ a. get_or (rows_of b.charges) a 0)) c.work-out.new.self.energy c.energy-energy.result (cost steps (jobs_of b.queue)) c.total.result c.total.ensures c.energy-energy.ensures d.made.1 c.if-energy-total.false b.within
-    in (
-      none_waits (jobs_of c.clear.new.self) b.held (sym c.if-is-some.ensures),
-      (still_within steps (jobs_of b.queue) (rows_of b.charges) (rows_of c.settle.new.charges) b.queue.order r u, tt),
-    )
+    under (sum_to 65 (λ a. get_or (rows_of b.charges) a 0)) c.work_out.new.self.energy c.energy-energy.result (cost steps (jobs_of b.queue)) c.total.result c.total.ensures c.energy-energy.ensures d.made.1 c.if-energy-total.false b.within
+    in record { waits = none_waits (jobs_of c.clear.new.self) b.held (sym c.if-is_some.ensures); within = still_within steps (jobs_of b.queue) (rows_of b.charges) (rows_of c.settle.new.charges) b.queue.order r u }
 
 pub returns : goal.returns
 unfolding charged
@@ -102,11 +99,11 @@ returns g c =
     let b = c.args.self.now in
     let s = state b in
     let steps = g.P.Processor.steps c.args.processor.now in
-    let d = c.in-ok-work-out.ensures in
+    let d = c.in_ok-work_out.ensures in
     let r = left_by steps c.jobs.result.now (jobs_of b.queue) c.segments.result.now (rows_of b.charges) (rows_of c.settle.new.charges) c.jobs.ensures (c.segments.ensures ∙ d.made.0) c.settle.ensures.all in
     let p =
-    close_done s steps c.energy-energy.result (jobs_of c.clear.new.self) (rows_of c.settle.new.charges) (g.met.P.Processor.lawful c.args.processor.now) (sym c.if-is-some.ensures) d.answer
-    (under (sum_to 65 (λ a. get_or (rows_of b.charges) a 0)) c.work-out.new.self.energy c.energy-energy.result (cost steps s.jobs) c.total.result c.total.ensures c.energy-energy.ensures d.made.1 c.if-energy-total.false b.within)
+    close_done s steps c.energy-energy.result (jobs_of c.clear.new.self) (rows_of c.settle.new.charges) (g.met.P.Processor.lawful c.args.processor.now) (sym c.if-is_some.ensures) d.answer
+    (under (sum_to 65 (λ a. get_or (rows_of b.charges) a 0)) c.work_out.new.self.energy c.energy-energy.result (cost steps s.jobs) c.total.result c.total.ensures c.energy-energy.ensures d.made.1 c.if-energy-total.false b.within)
     (c.energy-energy.ensures ∙ d.made.1) c.clear.ensures r
     in
     record { answer = p.answers; state = p.becoming; sound = p.sounds }

@@ -14,11 +14,11 @@ use Rattle.book.proofs.Pricing.{popped}
 use Rattle.book.proofs.Promises.{hit_front, pass_longer}
 use Rattle.book.proofs.book.Book.energy_with.Goals as goal
 
-pub invariant-of-self-2 : goal.invariant-of-self-2
-invariant-of-self-2 g c =
+pub invariant_of-self-2 : goal.invariant_of-self-2
+invariant_of-self-2 g c =
     let b = c.args.self.now in
-    let e = popped (jobs_of b.queue) (jobs_of c.push.new.self) (jobs_of c.pop.new.self) c.args.job c.in-ok-push.ensures.after c.pop.ensures in
-    (subst (λ (xs : List Job). may_wait xs b.held ≡ true) (sym e) b.waits, (b.within, tt))
+    let e = popped (jobs_of b.queue) (jobs_of c.push.new.self) (jobs_of c.pop.new.self) c.args.job c.in_ok-push.ensures.after c.pop.ensures in
+    record { waits = subst (λ (xs : List Job). may_wait xs b.held ≡ true) (sym e) b.waits; within = b.within }
 
 figured : (r : Result ℕ Refusal) (steps : List Step) (jobs more : List Job) → jobs ≡ more → IfOk r (λ e. e ≡ cost steps jobs) → IfOk r (λ e. e ≡ cost steps more)
 figured (Ok x) steps jobs more e h = h ∙ ap (cost steps) e
@@ -30,18 +30,18 @@ unfigured r y e P = subst (λ (x : Result ℕ Refusal). IfOk x P) (sym e) tt
 told_err : (r : Result ℕ Refusal) (y e : Refusal) → r ≡ Err y → y ≡ e → outcome r ≡ Some (told_of e)
 told_err r y e p q = ap outcome p ∙ ap (λ (x : Refusal). Some (told_of x)) q
 
-pub returns-in-err-push : goal.returns-in-err-push
-returns-in-err-push g c =
+pub returns-in_err-push : goal.returns-in_err-push
+returns-in_err-push g c =
     let b = c.args.self.now in
     let steps = g.P.Processor.steps c.args.processor.now in
-    let f = c.in-err-push.ensures in
-    let y = err_from_is_err_and c.from-residual.result c.from-residual.ensures.1 in
-    let e = c.in-err-push.field-0.0 in
+    let f = c.in_err-push.ensures in
+    let y = err_from_is_err_and c.from_residual.result c.from_residual.ensures.1 in
+    let e = c.in_err-push.field-0.0 in
     record {
       answer =
-          told_err c.from-residual.result y.0 e y.1 y.2
+          told_err c.from_residual.result y.0 e y.1 y.2
           ∙ sym (hit_front (push_lines (jobs_of b.queue) c.args.job) (want_line steps (with_job (jobs_of b.queue) c.args.job) ∷ []) (told_of e) (sym f.answer));
-      figure = unfigured c.from-residual.result y.0 y.1 _;
+      figure = unfigured c.from_residual.result y.0 y.1 _;
       same = ap (λ (xs : List Job). record { number = b.number; jobs = xs; held = b.held; charges = Rattle.charges.specs.Rows.rows_of b.charges }) f.after;
     }
 
@@ -49,13 +49,13 @@ pub returns : goal.returns
 returns g c =
     let b = c.args.self.now in
     let steps = g.P.Processor.steps c.args.processor.now in
-    let f = c.in-ok-push.ensures in
+    let f = c.in_ok-push.ensures in
     let e = popped (jobs_of b.queue) (jobs_of c.push.new.self) (jobs_of c.pop.new.self) c.args.job f.after c.pop.ensures in
     record {
       answer =
-          c.least-energy-energy.ensures.answer
+          c.least_energy-energy.ensures.answer
           ∙ (ap (λ (xs : List Job). first_of (want_line steps xs ∷ [])) f.after
           ∙ sym (pass_longer (push_lines (jobs_of b.queue) c.args.job) (want_line steps (with_job (jobs_of b.queue) c.args.job) ∷ []) (sym f.answer)));
-      figure = figured c.least-energy-energy.result steps (jobs_of c.push.new.self) (with_job (jobs_of b.queue) c.args.job) f.after c.least-energy-energy.ensures.figure;
+      figure = figured c.least_energy-energy.result steps (jobs_of c.push.new.self) (with_job (jobs_of b.queue) c.args.job) f.after c.least_energy-energy.ensures.figure;
       same = ap (λ (xs : List Job). record { number = b.number; jobs = xs; held = b.held; charges = Rattle.charges.specs.Rows.rows_of b.charges }) e;
     }

@@ -28,41 +28,41 @@ unopened r y e P = subst (λ (x : Result Slip Refusal). IfOk x P) (sym e) tt
 cost_same : (steps : List Level) (s t : State) (n : ℕ) → t ≡ s → n ≡ cost steps t.jobs → n ≡ cost steps s.jobs
 cost_same steps s t n e f = f ∙ ap (λ (x : State). cost steps x.jobs) e
 
-pub returns-then-is-some : goal.returns-then-is-some
-returns-then-is-some g c =
-    let p = hold_open (state c.args.self.now) c.args.job (g.P.Processor.steps c.args.processor.now) (g.met.P.Processor.lawful c.args.processor.now) (sym c.if-is-some.ensures) in
+pub returns-then-is_some : goal.returns-then-is_some
+returns-then-is_some g c =
+    let p = hold_open (state c.args.self.now) c.args.job (g.P.Processor.steps c.args.processor.now) (g.met.P.Processor.lawful c.args.processor.now) (sym c.if-is_some.ensures) in
     record { answer = p.answers; state = p.becoming; opens = tt; sound = p.sounds }
 
-pub returns-in-err-with : goal.returns-in-err-with
-returns-in-err-with g c =
+pub returns-in_err-with : goal.returns-in_err-with
+returns-in_err-with g c =
     let s = state c.args.self.now in
     let steps = g.P.Processor.steps c.args.processor.now in
-    let y = err_from_is_err_and c.from-residual.result c.from-residual.ensures.1 in
-    let e = c.in-err-with.field-0.0 in
+    let y = err_from_is_err_and c.from_residual.result c.from_residual.ensures.1 in
+    let e = c.in_err-with.field-0.0 in
     let p =
-    step_at s s (state c.energy-with.new.self) (holds c.args.job steps) (refused (told_of e)) (said_price c.from-residual.result) c.energy-with.ensures.same
-    (said_err c.from-residual.result y.0 e y.1 y.2)
-    (hold_stopped s c.args.job steps (told_of e) (g.met.P.Processor.lawful c.args.processor.now) (sym c.if-is-some.ensures) c.in-err-with.ensures.answer)
+    step_at s s (state c.energy_with.new.self) (holds c.args.job steps) (refused (told_of e)) (said_price c.from_residual.result) c.energy_with.ensures.same
+    (said_err c.from_residual.result y.0 e y.1 y.2)
+    (hold_stopped s c.args.job steps (told_of e) (g.met.P.Processor.lawful c.args.processor.now) (sym c.if-is_some.ensures) c.in_err-with.ensures.answer)
     in
-    record { answer = p.answers; state = p.becoming; opens = unopened c.from-residual.result y.0 y.1 _; sound = p.sounds }
+    record { answer = p.answers; state = p.becoming; opens = unopened c.from_residual.result y.0 y.1 _; sound = p.sounds }
 
-pub returns-in-err-without : goal.returns-in-err-without
-returns-in-err-without g c =
+pub returns-in_err-without : goal.returns-in_err-without
+returns-in_err-without g c =
     let s = state c.args.self.now in
     let steps = g.P.Processor.steps c.args.processor.now in
     absurd
-    (hold_able s c.args.job steps c.in-ok-with.ensures.answer (told_of c.in-err-without.field-0.0)
-    (c.in-err-without.ensures.answer ∙ ap (λ (x : State). first_of (want_line steps x.jobs ∷ [])) c.energy-with.ensures.same))
+    (hold_able s c.args.job steps c.in_ok-with.ensures.answer (told_of c.in_err-without.field-0.0)
+    (c.in_err-without.ensures.answer ∙ ap (λ (x : State). first_of (want_line steps x.jobs ∷ [])) c.energy_with.ensures.same))
 
 pub returns-then-with-without : goal.returns-then-with-without
 returns-then-with-without g c =
     let s = state c.args.self.now in
     let steps = g.P.Processor.steps c.args.processor.now in
-    let w : c.in-ok-with.with ≡ cost steps (with_job s.jobs c.args.job) = c.in-ok-with.ensures.figure in
-    let o : c.in-ok-without.without ≡ cost steps s.jobs = cost_same steps s (state c.energy-with.new.self) _ c.energy-with.ensures.same c.in-ok-without.ensures.figure in
+    let w : c.in_ok-with.with ≡ cost steps (with_job s.jobs c.args.job) = c.in_ok-with.ensures.figure in
+    let o : c.in_ok-without.without ≡ cost steps s.jobs = cost_same steps s (state c.energy_with.new.self) _ c.energy_with.ensures.same c.in_ok-without.ensures.figure in
     let p =
-    step_at s s (state c.energy-with.new.self) (holds c.args.job steps) _ _ c.energy-with.ensures.same refl
-    (hold_cheap s c.args.job steps c.in-ok-with.ensures.answer (g.met.P.Processor.lawful c.args.processor.now) (sym c.if-is-some.ensures) (omega (arith, w, o, c.if-with-without.true)))
+    step_at s s (state c.energy_with.new.self) (holds c.args.job steps) _ _ c.energy_with.ensures.same refl
+    (hold_cheap s c.args.job steps c.in_ok-with.ensures.answer (g.met.P.Processor.lawful c.args.processor.now) (sym c.if-is_some.ensures) (omega (arith, w, o, c.if-with-without.true)))
     in
     record { answer = p.answers; state = p.becoming; opens = tt; sound = p.sounds }
 
@@ -70,11 +70,11 @@ pub returns : goal.returns
 returns g c =
     let s = state c.args.self.now in
     let steps = g.P.Processor.steps c.args.processor.now in
-    let w : c.in-ok-with.with ≡ cost steps (with_job s.jobs c.args.job) = c.in-ok-with.ensures.figure in
-    let o : c.in-ok-without.without ≡ cost steps s.jobs = cost_same steps s (state c.energy-with.new.self) _ c.energy-with.ensures.same c.in-ok-without.ensures.figure in
+    let w : c.in_ok-with.with ≡ cost steps (with_job s.jobs c.args.job) = c.in_ok-with.ensures.figure in
+    let o : c.in_ok-without.without ≡ cost steps s.jobs = cost_same steps s (state c.energy_with.new.self) _ c.energy_with.ensures.same c.in_ok-without.ensures.figure in
     let p =
-    step_at s (holding s c.args.job) (holding (state c.energy-with.new.self) c.args.job) (holds c.args.job steps) _ _ (ap (λ (x : State). holding x c.args.job) c.energy-with.ensures.same) refl
-    (hold_taken s c.args.job steps c.in-ok-with.ensures.answer (c.in-ok-with.with - c.in-ok-without.without) (g.met.P.Processor.lawful c.args.processor.now) (sym c.if-is-some.ensures)
+    step_at s (holding s c.args.job) (holding (state c.energy_with.new.self) c.args.job) (holds c.args.job steps) _ _ (ap (λ (x : State). holding x c.args.job) c.energy_with.ensures.same) refl
+    (hold_taken s c.args.job steps c.in_ok-with.ensures.answer (c.in_ok-with.with - c.in_ok-without.without) (g.met.P.Processor.lawful c.args.processor.now) (sym c.if-is_some.ensures)
     (omega (arith, w, o, c.if-with-without.false)) (omega (arith, w, o)))
     in
     record { answer = p.answers; state = p.becoming; opens = (refl, refl); sound = p.sounds }

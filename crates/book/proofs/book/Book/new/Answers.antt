@@ -9,5 +9,5 @@ nothing_charged : (xs : List ℕ) → xs ≡ lib.ListN.replicate 65 0 → sum_to
 unfolding charged
 nothing_charged xs e = ap (λ (ys : List ℕ). sum_to 65 (λ a. get_or ys a 0)) e ∙ charged_new 0
 
-pub invariant-of-result : goal.invariant-of-result
-invariant-of-result c = (refl, (omega (arith, nothing_charged (rows_of c.new-charges.result) c.new-charges.ensures), tt))
+pub invariant_of-result : goal.invariant_of-result
+invariant_of-result c = record { waits = refl; within = omega (arith, nothing_charged (rows_of c.new-charges.result) c.new-charges.ensures) }

@@ -10,9 +10,9 @@ kept : (r : Result Planned Refusal) (entry exit full : List Segment) → exit �
 kept (Ok p) entry exit full e = tt
 kept (Err w) entry exit full e = e
 
-pub returns-then-is-some : goal.returns-then-is-some
-returns-then-is-some g c =
-    let p = plan_open (state c.args.self.now) (g.P.Processor.steps c.args.processor.now) c.args.buffer.now (g.met.P.Processor.lawful c.args.processor.now) (sym c.is-some.ensures ∙ c.if-is-some.true) in
+pub returns-then-is_some : goal.returns-then-is_some
+returns-then-is_some g c =
+    let p = plan_open (state c.args.self.now) (g.P.Processor.steps c.args.processor.now) c.args.buffer.now (g.met.P.Processor.lawful c.args.processor.now) (sym c.is_some.ensures ∙ c.if-is_some.true) in
     record { answer = p.answers; buffer = refl; sound = p.sounds }
 
 pub returns : goal.returns
@@ -20,6 +20,6 @@ returns g c =
     let e = c.plan.ensures in
     let p =
     plan_made (state c.args.self.now) (g.P.Processor.steps c.args.processor.now) c.args.buffer.now c.plan.new.buffer c.plan.result (g.met.P.Processor.lawful c.args.processor.now)
-    (sym c.is-some.ensures ∙ c.if-is-some.false) e.answer e.figures e.buffer
+    (sym c.is_some.ensures ∙ c.if-is_some.false) e.answer e.figures e.buffer
     in
     record { answer = p.answers; buffer = kept c.plan.result _ _ _ e.buffer; sound = p.sounds }

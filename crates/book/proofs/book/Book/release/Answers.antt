@@ -9,12 +9,12 @@ returns-then-slip-self c =
     let p = release_foreign (state c.args.self.now) c.args.slip.book c.if-slip-self.true in
     record { answer = p.answers; back = refl; state = p.becoming; spends = λ h e. absurd (c.if-slip-self.true e); sound = p.sounds }
 
-pub returns-then-is-none : goal.returns-then-is-none
-returns-then-is-none c =
-    let p = release_nothing (state c.args.self.now) c.args.slip.book c.if-is-none.ensures in
-    record { answer = p.answers; back = refl; state = p.becoming; spends = (λ h e. absurd (true≢false (sym h ∙ c.if-is-none.ensures))); sound = p.sounds }
+pub returns-then-is_none : goal.returns-then-is_none
+returns-then-is_none c =
+    let p = release_nothing (state c.args.self.now) c.args.slip.book c.if-is_none.ensures in
+    record { answer = p.answers; back = refl; state = p.becoming; spends = (λ h e. absurd (true≢false (sym h ∙ c.if-is_none.ensures))); sound = p.sounds }
 
 pub returns : goal.returns
 returns c =
-    let p = release_held (state c.args.self.now) c.args.slip.book c.if-is-none.ensures c.if-slip-self.false in
+    let p = release_held (state c.args.self.now) c.args.slip.book c.if-is_none.ensures c.if-slip-self.false in
     record { answer = p.answers; back = tt; state = p.becoming; spends = λ h e. refl; sound = p.sounds }

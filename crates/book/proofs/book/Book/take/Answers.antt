@@ -11,10 +11,10 @@ returns-then-slip-self c =
     let p = take_foreign (state c.args.self.now) c.args.slip.book c.if-slip-self.true in
     record { answer = p.answers; back = refl; state = p.becoming; spends = λ h e. absurd (c.if-slip-self.true e); sound = p.sounds }
 
-pub returns-in-default : goal.returns-in-default
-returns-in-default c =
-    let p = take_nothing (state c.args.self.now) c.args.slip.book (ap (λ (o : Option Job). is_some o) c.in-default.is) in
-    record { answer = p.answers; back = refl; state = p.becoming; spends = (λ h e. absurd (true≢false (sym h ∙ ap (λ (o : Option Job). is_some o) c.in-default.is))); sound = p.sounds }
+pub returns-in_default : goal.returns-in_default
+returns-in_default c =
+    let p = take_nothing (state c.args.self.now) c.args.slip.book (ap (λ (o : Option Job). is_some o) c.in_default.is) in
+    record { answer = p.answers; back = refl; state = p.becoming; spends = (λ h e. absurd (true≢false (sym h ∙ ap (λ (o : Option Job). is_some o) c.in_default.is))); sound = p.sounds }
 
 pub returns : goal.returns
 returns c =
