@@ -2,32 +2,39 @@
 use model::job::Job;
 use planner::path::path;
 use queue::queue::Queue;
+use std::alloc::{AllocError, Global};
+use std::process::Abort;
 use std::test::*;
 
 // The queue of these jobs.
-fn queue_of(rt: &HostRuntime, jobs: &[Job]) -> Result<Queue, Fail> {
-    let mut queue = Queue::new(rt.alloc())?;
+fn queue_of(rt: &impl Abort, alloc: Global, jobs: &[Job]) -> Result<Queue, AllocError> {
+    let mut queue = Queue::new(alloc)?;
     for job in jobs {
-        assert!(queue.push(*job).is_ok());
+        assert!(rt; queue.push(*job).is_ok());
     }
     Ok(queue)
 }
 
 // Whether the path of the jobs has these corners.
-fn bends_at(rt: &HostRuntime, jobs: &[Job], corners: &[(u32, u32)]) -> Result<(), Fail> {
-    let queue = queue_of(rt, jobs)?;
+fn bends_at(
+    rt: &impl Abort,
+    alloc: Global,
+    jobs: &[Job],
+    corners: &[(u32, u32)],
+) -> Result<(), AllocError> {
+    let queue = queue_of(rt, alloc, jobs)?;
     let path = path(&queue);
     let found = path.points();
-    assert_eq!(found.len(), corners.len());
+    assert_eq!(rt; found.len(), corners.len());
     for (point, (time, height)) in found.iter().zip(corners.iter()) {
-        assert_eq!(point.time, *time);
-        assert_eq!(point.height, *height);
+        assert_eq!(rt; point.time, *time);
+        assert_eq!(rt; point.height, *height);
     }
     Ok(())
 }
 
 #[test]
-fn one_rise(rt: HostRuntime) -> Result<(), Fail> {
+fn one_rise(rt: HostRuntime) -> Result<(), AllocError> {
     let jobs = [
         Job {
             arrival: 3,
@@ -42,11 +49,11 @@ fn one_rise(rt: HostRuntime) -> Result<(), Fail> {
             account: 2,
         },
     ];
-    bends_at(&rt, &jobs, &[(3, 0), (11, 9)])
+    bends_at(&rt, rt.alloc(), &jobs, &[(3, 0), (11, 9)])
 }
 
 #[test]
-fn two_falls(rt: HostRuntime) -> Result<(), Fail> {
+fn two_falls(rt: HostRuntime) -> Result<(), AllocError> {
     let jobs = [
         Job {
             arrival: 0,
@@ -73,5 +80,5 @@ fn two_falls(rt: HostRuntime) -> Result<(), Fail> {
             account: 2,
         },
     ];
-    bends_at(&rt, &jobs, &[(1, 10), (12, 40), (14, 41)])
+    bends_at(&rt, rt.alloc(), &jobs, &[(1, 10), (12, 40), (14, 41)])
 }
