@@ -15,7 +15,7 @@ fn main() {
         None => repository.join("target/staticlib/libsheet.a"),
     };
     let kit = PathBuf::from(env::var_os("RATTLE_KIT").unwrap_or_else(|| "/opt/rattle".into()));
-    for library in [sheet, kit.join("lib/librattle_c.a")] {
+    for library in [sheet, kit.join("c/liblibc_c.a")] {
         println!("cargo::rerun-if-changed={}", library.display());
         println!("cargo::rustc-link-arg-bin=times={}", library.display());
     }

@@ -1,6 +1,6 @@
 /*
  * Nofjerm from C: which step of the processor a plan names at a tick (librecord.a), and the plan of a sheet as text (libsheet.a).
- * Link librattle_c.a of the Rattle kit beside either.
+ * Link c/liblibc_c.a of the Rattle kit beside the second, which asks for memory.
  */
 #ifndef NOFJERM_H
 #define NOFJERM_H

@@ -92,7 +92,7 @@ def bases(folder):
 
 
 def main():
-    program = os.path.abspath(sys.argv[1] if len(sys.argv) > 1 else "target/bin/plan")
+    program = os.path.abspath(sys.argv[1] if len(sys.argv) > 1 else "crates/plan/out/plan")
     with tempfile.TemporaryDirectory(prefix="least") as folder:
         wrong = changes(program, folder) + bases(folder)
     print(f"faults: {len(CHANGES) - 1} wrong programs, {wrong} not caught")

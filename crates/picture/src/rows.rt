@@ -4,7 +4,7 @@ use grammar::row::Row;
 use grammar::rows::read_row;
 use processor::ladder::Ladder;
 use queue::queue::Queue;
-use sheet::draw::draw;
+use sheet::drawing::draw;
 use std::alloc::{AllocError, Global};
 
 // The figures of a ladder as far as they are read, and the jobs.

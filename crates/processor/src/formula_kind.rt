@@ -1,7 +1,7 @@
 // The formula as a processor.
 ghost use Rattle.processor.specs.Meanings.{steps_of};
 ghost use Rattle.processor.specs.Held.{formula_lawful};
-ghost use Rattle.std.proofs.Common.{rules, arith};
+ghost use Rattle.std.proofs.Common.{rules};
 
 use crate::formula::Formula;
 use crate::processor::Processor;
@@ -15,7 +15,7 @@ impl Processor for Formula {
 
     ghost lawful = { λ p. formula_lawful p.count p.stride p.constant p.linear p.cubic p.lawful };
 
-    ghost known = { first_of (Prim.search rules, Prim.grind (arith, Self.row.coded.inj)) };
+    ghost known = { Prim.search rules };
 
     fn count(&self) -> usize {
         self.count

@@ -1,7 +1,7 @@
 // The ladder as a processor.
 ghost use Rattle.processor.specs.Meanings.{ladder_steps};
 ghost use Rattle.processor.specs.Held.{ladder_lawful};
-ghost use Rattle.std.proofs.Common.{rules, arith};
+ghost use Rattle.std.proofs.Common.{rules};
 
 use crate::ladder::Ladder;
 use crate::processor::Processor;
@@ -15,7 +15,7 @@ impl Processor for Ladder {
 
     ghost lawful = { λ p. ladder_lawful p.steps p.count p.full p.lawful };
 
-    ghost known = { first_of (Prim.search rules, Prim.grind (arith, Self.row.coded.inj)) };
+    ghost known = { Prim.search rules };
 
     fn count(&self) -> usize {
         self.count

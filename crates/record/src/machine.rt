@@ -25,8 +25,7 @@ fn step_at(record: &[u8], tick: u64) -> Result<usize, Refusal>
 }
 
 // The step at a tick of a record, 0 to 15, or the number of the refusal.
-#[unsafe(no_mangle)]
-pub extern "C" fn nofjerm_step_at(record: &[u8], tick: u64) -> u32
+pub fn nofjerm_step_at(record: &[u8], tick: u64) -> u32
     ensures { result ≡ machine_answer (read_any «record».now) tick }
 {
     match step_at(record, tick) {

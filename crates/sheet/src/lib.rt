@@ -1,7 +1,7 @@
 // Sheets: a ladder and jobs as text, and the plan drawn from them as text.
 #![tactic(auto)]
 
-pub mod draw;
+pub mod drawing;
 pub mod fault;
 mod page;
 pub mod print;

@@ -3,7 +3,7 @@ ghost use Rattle.std.specs.Prelude.{◌≡◌, ◌<◌, [], ◌∷◌, ◌++◌,
 ghost use Rattle.refusal.specs.Refusals.{outcome, first_of, line as ruled};
 ghost use Rattle.sheet.specs.Answers.{fitting, printed, Prints};
 
-use crate::draw::draw;
+use crate::drawing::draw;
 use crate::refused::refused_line;
 use refusal::refusal::Refusal;
 use std::alloc::{AllocError, Global};
@@ -26,8 +26,7 @@ pub fn print_sheet(
 
 // Writes what a sheet gives from the buffer's start, and answers its length, or 0 where nothing was written: there is no memory for a
 // book, or the buffer is too short even for the refused line.
-#[unsafe(no_mangle)]
-pub extern "C" fn nofjerm_plan_sheet(heap: Global, sheet: &[u8], out: &mut [u8]) -> usize
+pub fn nofjerm_plan_sheet(heap: Global, sheet: &[u8], out: &mut [u8]) -> usize
     ensures { Prints (printed (length out.old) sheet.now) out.old out.new result }
 {
     let Ok(answer) = print_sheet(heap, sheet, out) else {

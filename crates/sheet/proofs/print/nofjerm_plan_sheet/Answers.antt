@@ -8,5 +8,5 @@ pub returns-in-Ok-answer : goal.returns-in-Ok-answer
 returns-in-Ok-answer c =
     let s = c.args.sheet.now in
     let o = c.args.out.now in
-    let now = c.print-sheet.new.out in
+    let now = c.print_sheet.new.out in
     prints (length o) c.in-Ok-answer.length s o now (subst (λ (r : Result ℕ Refusal). fitting (printed (length o) s) o now r) c.in-Ok-answer.is c.in-Ok.ensures)

@@ -7,25 +7,25 @@ use Rattle.sheet.proofs.Kept.{ladder_told, good_refilled}
 use Rattle.sheet.proofs.Taking.{outcome_err, made_err}
 use Rattle.sheet.proofs.page.Page.make_ladder.Goals as goal
 
-pub returns-in-err-fill : goal.returns-in-err-fill
-returns-in-err-fill c =
+pub returns-in_err-fill : goal.returns-in_err-fill
+returns-in_err-fill c =
     let p = c.args.self.now in
-    let y = err_from_is_err_and c.from-residual.result c.from-residual.ensures.1 in
+    let y = err_from_is_err_and c.from_residual.result c.from_residual.ensures.1 in
     record {
-      answer = outcome_err c.from-residual.result y.0 c.in-err-fill.field-0.0 y.1 y.2 ∙ c.in-err-fill.ensures.answer ∙ ladder_told p c.requires;
+      answer = outcome_err c.from_residual.result y.0 c.in_err-fill.field-0.0 y.1 y.2 ∙ c.in_err-fill.ensures.answer ∙ ladder_told p c.requires;
       good = good_refilled p c.fill.new.self c.requires c.in-Rungs.is;
       same = refl;
-      made = made_err c.from-residual.result y.0 _ y.1;
+      made = made_err c.from_residual.result y.0 _ y.1;
     }
 
-pub returns-in-ok-fill : goal.returns-in-ok-fill
-returns-in-ok-fill c =
+pub returns-in_ok-fill : goal.returns-in_ok-fill
+returns-in_ok-fill c =
     let p = c.args.self.now in
     record {
-      answer = c.in-ok-fill.ensures.answer ∙ ladder_told p c.requires;
+      answer = c.in_ok-fill.ensures.answer ∙ ladder_told p c.requires;
       good = good_refilled p c.fill.new.self c.requires c.in-Rungs.is;
       same = refl;
-      made = c.in-ok-fill.ensures.after;
+      made = c.in_ok-fill.ensures.after;
     }
 
 made_at : (s : Stage) → (s ≡ Rungs → ⊥) → is_made s ≡ true
@@ -33,7 +33,7 @@ made_at Rungs n = absurd (n refl)
 made_at Tasks n = refl
 made_at Drawn n = refl
 
-pub returns-in-default : goal.returns-in-default
-returns-in-default c =
-    let m = made_at c.args.self.now.stage c.in-default.not-Rungs in
+pub returns-in_default : goal.returns-in_default
+returns-in_default c =
+    let m = made_at c.args.self.now.stage c.in_default.not-Rungs in
     record { answer = sym (c.requires.lawful m); good = c.requires; same = refl; made = c.requires.ladder m }

@@ -5,31 +5,31 @@ use Rattle.sheet.proofs.Lines.{line_stops, line_goes, at_end, all_said}
 use Rattle.sheet.proofs.Taking.{fault_err, made_fault, made_same}
 use Rattle.sheet.proofs.page.Page.read.Goals as goal
 
-pub returns-in-err-take-line : goal.returns-in-err-take-line
-returns-in-err-take-line c =
+pub returns-in_err-take_line : goal.returns-in_err-take_line
+returns-in_err-take_line c =
     let l = c.loop-end in
     let i = c.in-Some.ensures in
-    let y = err_from_is_err_and c.from-residual.result c.from-residual.ensures.1 in
-    let e = c.in-err-take-line.field-0.0 in
+    let y = err_from_is_err_and c.from_residual.result c.from_residual.ensures.1 in
+    let e = c.in_err-take_line.field-0.0 in
     record {
-      answer = fault_err c.from-residual.result y.0 e y.1 y.2 ∙ line_stops c.args.sheet.now l.at l.line c.in-Some.end l.self (fault_told e) l.invariant i.2 c.in-err-take-line.ensures.answer;
-      good = made_fault c.from-residual.result y.0 _ y.1;
-      after = made_fault c.from-residual.result y.0 _ y.1;
-      drawn = made_fault c.from-residual.result y.0 _ y.1;
+      answer = fault_err c.from_residual.result y.0 e y.1 y.2 ∙ line_stops c.args.sheet.now l.at l.line c.in-Some.end l.self (fault_told e) l.invariant i.2 c.in_err-take_line.ensures.answer;
+      good = made_fault c.from_residual.result y.0 _ y.1;
+      after = made_fault c.from_residual.result y.0 _ y.1;
+      drawn = made_fault c.from_residual.result y.0 _ y.1;
     }
 
 pub loop-end-preserved : goal.loop-end-preserved
 loop-end-preserved c =
     let l = c.loop-end in
     let i = c.in-Some.ensures in
-    let k = c.in-ok-take-line.ensures in
-    line_goes c.args.sheet.now l.at l.line c.in-Some.end l.self c.take-line.new.self l.invariant i.0 i.1 i.2 k.answer k.good k.after
+    let k = c.in_ok-take_line.ensures in
+    line_goes c.args.sheet.now l.at l.line c.in-Some.end l.self c.take_line.new.self l.invariant i.0 i.1 i.2 k.answer k.good k.after
 
 pub returns : goal.returns
 returns c =
     let l = c.loop-end in
     let r = c.end.result in
-    let n = c.in-default.ensures in
+    let n = c.in_default.ensures in
     record {
       answer = c.end.ensures.answer ∙ at_end c.args.sheet.now l.at l.line l.self l.invariant n;
       good = made_same r r refl (λ x. l.invariant.good) c.end.ensures.drawn;

@@ -15,28 +15,28 @@ pub returns-in-Task : goal.returns-in-Task
 returns-in-Task c =
     let s = sheet_of c.args.self.now in
     let r = Task c.in-Task.job in
-    let d = undrawn_placed c.args.self.now.stage c.in-default.not-Drawn in
+    let d = undrawn_placed c.args.self.now.stage c.in_default.not-Drawn in
     let i : r ≡ c.args.row = sym c.in-Task.is in
     record {
       answer =
-          c.at-line.ensures.answer
-          ∙ beneath_decides s r c.args.line (outcome c.take-task.result) (not_from_false _ d) c.take-task.ensures.answer
+          c.at_line.ensures.answer
+          ∙ beneath_decides s r c.args.line (outcome c.take_task.result) (not_from_false _ d) c.take_task.ensures.answer
           ∙ ap (λ (x : Row). first_of (row_table c.args.line s x)) i;
-      good = made_same c.take-task.result c.at-line.result c.at-line.ensures.same (λ x. x) c.take-task.ensures.good;
-      after = made_same c.take-task.result c.at-line.result c.at-line.ensures.same (λ x. x ∙ ap (λ (y : Row). with_row s y) i) c.take-task.ensures.after;
+      good = made_same c.take_task.result c.at_line.result c.at_line.ensures.same (λ x. x) c.take_task.ensures.good;
+      after = made_same c.take_task.result c.at_line.result c.at_line.ensures.same (λ x. x ∙ ap (λ (y : Row). with_row s y) i) c.take_task.ensures.after;
     }
 
 pub returns-in-Draw : goal.returns-in-Draw
 returns-in-Draw c =
     let s = sheet_of c.args.self.now in
     let r = Draw in
-    let d = undrawn_placed c.args.self.now.stage c.in-default.not-Drawn in
+    let d = undrawn_placed c.args.self.now.stage c.in_default.not-Drawn in
     let i : r ≡ c.args.row = sym c.in-Draw.is in
     record {
       answer =
-          c.at-line-in-Draw.ensures.answer
+          c.at_line-in-Draw.ensures.answer
           ∙ beneath_decides s r c.args.line (outcome c.draw.result) (not_from_false _ d) c.draw.ensures.answer
           ∙ ap (λ (x : Row). first_of (row_table c.args.line s x)) i;
-      good = made_same c.draw.result c.at-line-in-Draw.result c.at-line-in-Draw.ensures.same (λ x. x) c.draw.ensures.good;
-      after = made_same c.draw.result c.at-line-in-Draw.result c.at-line-in-Draw.ensures.same (λ x. x ∙ ap (λ (y : Row). with_row s y) i) c.draw.ensures.after;
+      good = made_same c.draw.result c.at_line-in-Draw.result c.at_line-in-Draw.ensures.same (λ x. x) c.draw.ensures.good;
+      after = made_same c.draw.result c.at_line-in-Draw.result c.at_line-in-Draw.ensures.same (λ x. x ∙ ap (λ (y : Row). with_row s y) i) c.draw.ensures.after;
     }
