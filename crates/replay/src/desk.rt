@@ -1,110 +1,60 @@
 // The book that calls are replayed on, with what stands beside it.
 use crate::answer::Answer;
 use crate::call::Call;
+use crate::keeper::Keeper;
 use crate::machine::Machine;
-use crate::slips::{Way, bring_other};
-use crate::stop::Stop;
+use crate::slips::Way;
 use anyhow::anyhow;
-use book::book::Book;
-use book::slip::Slip;
-use model::job::Job;
 use model::segment::Segment;
 use processor::ladder::Ladder;
 use refusal::refusal::Refusal;
 use std::alloc::{AllocError, Global};
+use std::mem;
 
-// A desk: the book and its number, the slip of its open hold, and the processor of its calls, which outlasts the book.
+// A desk: the book with the slip of its open hold, and the processor of its calls, which outlasts the book.
 pub struct Desk {
     heap: Global,
-    number: u16,
-    book: Book,
-    slip: Option<Slip>,
+    keeper: Keeper,
     machine: Machine,
 }
 
 impl Desk {
     // A desk with an empty book.
     pub fn new(heap: Global) -> Result<Desk, AllocError> {
-        let book = Book::new(heap, 0)?;
+        let keeper = Keeper::new(heap, 0)?;
         Ok(Desk {
             heap,
-            number: 0,
-            book,
-            slip: None,
+            keeper,
             machine: Machine::Ladder(Ladder::smallest()),
         })
     }
 
     // Ends the desk: the slip of an open hold is released.
-    pub fn leave(self) -> Result<(), Slip> {
+    pub fn leave(self) {
         let Desk {
             heap: _,
-            number: _,
-            mut book,
-            slip,
+            keeper,
             machine: _,
         } = self;
-        match slip {
-            None => Ok(()),
-            Some(slip) => match book.release(slip) {
-                Ok(()) => Ok(()),
-                Err((slip, _)) => Err(slip),
-            },
-        }
+        keeper.leave();
     }
 
     // Puts a new book in the place of the old, whose open hold is released.
-    fn open(&mut self, number: u16) -> Result<Answer, Stop> {
-        let book = Book::new(self.heap, number)?;
-        if let Some(slip) = self.slip.take() {
-            if let Err((slip, _)) = self.book.release(slip) {
-                return Err(Stop::Unspent(slip));
-            }
-        }
-        self.book = book;
-        self.number = number;
+    fn open(&mut self, number: u16) -> Result<Answer, AllocError> {
+        let opened = Keeper::new(self.heap, number)?;
+        mem::replace(&mut self.keeper, opened).leave();
         Ok(Answer::Done)
     }
 
-    // Keeps the slip of the open hold.
-    fn keep(&mut self, slip: Slip) -> Result<(), Stop> {
-        match self.slip.replace(slip) {
-            None => Ok(()),
-            Some(before) => Err(Stop::Unspent(before)),
-        }
-    }
-
-    fn hold(&mut self, job: Job) -> Result<Answer, Stop> {
-        match self.machine.hold(&mut self.book, job) {
-            Ok(slip) => {
-                let price = slip.price();
-                self.keep(slip)?;
-                Ok(Answer::Figure(price))
-            }
-            Err(why) => Ok(Answer::Refused(why)),
-        }
-    }
-
     // Brings a slip of this number: the one that is kept, or one of another book.
-    fn bring(&mut self, number: u16, way: Way) -> Result<Answer, Stop> {
-        if number == self.number {
-            if let Some(slip) = self.slip.take() {
-                return match way.bring(&mut self.book, slip) {
-                    Ok(()) => Ok(Answer::Done),
-                    Err((slip, why)) => {
-                        self.keep(slip)?;
-                        Ok(Answer::Refused(why))
-                    }
-                };
-            }
-        }
-        let brought = bring_other(self.heap, &mut self.book, number, way)?;
+    fn bring(&mut self, number: u16, way: Way) -> anyhow::Result<Answer> {
+        let brought = self.keeper.bring(self.heap, number, way)?;
         Ok(Answer::of(brought))
     }
 
     // Plans into this buffer, and answers what stands in it then.
     fn plan_into(&self, buffer: &mut [Segment]) -> anyhow::Result<Answer> {
-        match self.machine.plan(&self.book, buffer) {
+        match self.machine.plan(self.keeper.book(), buffer) {
             Ok(planned) => {
                 let written = buffer.iter().take(planned.segments);
                 let segments = written.copied().collect(self.heap)?;
@@ -135,9 +85,9 @@ impl Desk {
     }
 
     // What the book answers to a call.
-    pub fn answer(&mut self, call: Call) -> Result<Answer, Stop> {
+    pub fn answer(&mut self, call: Call) -> anyhow::Result<Answer> {
         match call {
-            Call::Book(number) => self.open(number),
+            Call::Book(number) => Ok(self.open(number)?),
             Call::Ladder {
                 speeds,
                 powers,
@@ -150,15 +100,15 @@ impl Desk {
                 linear,
                 cubic,
             } => Ok(self.make(Machine::formula(count, stride, constant, linear, cubic))),
-            Call::Enter(job) => Ok(Answer::of(self.book.enter(job))),
-            Call::Hold(job) => self.hold(job),
+            Call::Enter(job) => Ok(Answer::of(self.keeper.enter(job))),
+            Call::Hold(job) => Ok(Answer::of_figure(self.machine.hold(&mut self.keeper, job))),
             Call::Take(number) => self.bring(number, Way::Take),
             Call::Release(number) => self.bring(number, Way::Release),
-            Call::Strike => Ok(Answer::of(self.book.strike())),
-            Call::Plan(room) => Ok(self.plan(room)?),
-            Call::Close => Ok(Answer::of_figure(self.machine.close(&mut self.book))),
-            Call::Charge(account) => Ok(Answer::of_figure(self.book.charge(account))),
-            Call::Count => Ok(Answer::Figure(self.book.count() as u64)),
+            Call::Strike => Ok(Answer::of(self.keeper.strike())),
+            Call::Plan(room) => self.plan(room),
+            Call::Close => Ok(Answer::of_figure(self.machine.close(&mut self.keeper))),
+            Call::Charge(account) => Ok(Answer::of_figure(self.keeper.book().charge(account))),
+            Call::Count => Ok(Answer::Figure(self.keeper.book().count() as u64)),
         }
     }
 }

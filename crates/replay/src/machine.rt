@@ -1,6 +1,6 @@
 // The processor that stands while calls are replayed.
+use crate::keeper::Keeper;
 use book::book::Book;
-use book::slip::Slip;
 use model::job::Job;
 use model::segment::Segment;
 use planner::plan::Planned;
@@ -35,11 +35,11 @@ impl Machine {
         Ok(Machine::Formula(formula))
     }
 
-    // Holds a job in a book on this processor.
-    pub fn hold(&self, book: &mut Book, job: Job) -> Result<Slip, Refusal> {
+    // Holds a job in a book on this processor, and answers the price.
+    pub fn hold(&self, keeper: &mut Keeper, job: Job) -> Result<u64, Refusal> {
         match self {
-            Machine::Ladder(ladder) => book.hold(job, ladder),
-            Machine::Formula(formula) => book.hold(job, formula),
+            Machine::Ladder(ladder) => keeper.hold(job, ladder),
+            Machine::Formula(formula) => keeper.hold(job, formula),
         }
     }
 
@@ -52,10 +52,10 @@ impl Machine {
     }
 
     // Closes a book on this processor.
-    pub fn close(&self, book: &mut Book) -> Result<u64, Refusal> {
+    pub fn close(&self, keeper: &mut Keeper) -> Result<u64, Refusal> {
         match self {
-            Machine::Ladder(ladder) => book.close(ladder),
-            Machine::Formula(formula) => book.close(formula),
+            Machine::Ladder(ladder) => keeper.close(ladder),
+            Machine::Formula(formula) => keeper.close(formula),
         }
     }
 }

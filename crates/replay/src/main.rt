@@ -7,19 +7,16 @@
 mod answer;
 mod call;
 mod desk;
+mod keeper;
 mod machine;
 mod read;
 mod slips;
-mod stop;
 mod tally;
 
 use crate::desk::Desk;
 use crate::read::{first_word, read};
-use crate::stop::Stop;
 use crate::tally::Tally;
 use anyhow::anyhow;
-use book::slip::Slip;
-use std::alloc::AllocError;
 use std::io::{BufRead, BufReader};
 
 // How many calls that are answered otherwise are shown in full.
@@ -37,9 +34,9 @@ fn replay_line(
     desk: &mut Desk,
     tally: &mut Tally,
     line: &str,
-) -> Result<(), Stop> {
+) -> anyhow::Result<()> {
     let Some((told, expected)) = line.split_once(" = ") else {
-        return Err(Stop::Fault("a line has no answer".into()));
+        return Err(anyhow!("a line has no answer"));
     };
     let call = read(rt.alloc(), told)?;
     let answer = desk.answer(call)?;
@@ -53,19 +50,16 @@ fn replay_line(
 }
 
 // Replays every line of the input.
-fn replay(rt: &HostRuntime, desk: &mut Desk, tally: &mut Tally) -> Result<(), Stop> {
-    for line in BufReader::new(rt.alloc(), rt.stdin())
-        .map_err(|_| std::alloc::AllocError)?
-        .lines(rt.alloc())
-    {
+fn replay(rt: &HostRuntime, desk: &mut Desk, tally: &mut Tally) -> anyhow::Result<()> {
+    for line in BufReader::new(rt.alloc(), rt.stdin())?.lines(rt.alloc()) {
         match line {
             Ok(line) => {
-                if let Err(stop) = replay_line(rt, desk, tally, line.as_str()) {
+                if let Err(why) = replay_line(rt, desk, tally, line.as_str()) {
                     let _ = eprintln!(rt; "stopped at: {line}");
-                    return Err(stop);
+                    return Err(why);
                 }
             }
-            Err(why) => return Err(Stop::Fault(why.into())),
+            Err(why) => return Err(why.into()),
         }
     }
     Ok(())
@@ -81,28 +75,15 @@ fn sum_up(rt: &HostRuntime, tally: &Tally) -> anyhow::Result<()> {
 }
 
 // Replays the input, and says why where it stops.
-fn run(rt: &HostRuntime, desk: &mut Desk) -> Result<(), Stop> {
+fn run(rt: &HostRuntime, desk: &mut Desk) -> anyhow::Result<()> {
     let mut tally = Tally::new();
-    match replay(rt, desk, &mut tally) {
-        Ok(()) => Ok(sum_up(rt, &tally)?),
-        Err(Stop::Fault(why)) => Ok(Err(why)?),
-        Err(Stop::Unspent(slip)) => Err(Stop::Unspent(slip)),
-    }
+    replay(rt, desk, &mut tally)?;
+    sum_up(rt, &tally)
 }
 
-// How the program ends where it does not end well: by a stop, by a slip that is left over, or by both.
-struct End(Result<(), Stop>, Result<(), Slip>);
-
-impl From<AllocError> for End {
-    fn from(why: AllocError) -> End {
-        End(Err(why.into()), Ok(()))
-    }
-}
-
-fn main(rt: HostRuntime) -> Result<(), End> {
+fn main(rt: HostRuntime) -> anyhow::Result<()> {
     let mut desk = Desk::new(rt.alloc())?;
-    match (run(&rt, &mut desk), desk.leave()) {
-        (Ok(()), Ok(())) => Ok(()),
-        (stop, left) => Err(End(stop, left)),
-    }
+    let ran = run(&rt, &mut desk);
+    desk.leave();
+    ran
 }

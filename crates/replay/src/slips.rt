@@ -1,5 +1,8 @@
 // Slips for calls that bring one which the open hold did not give out.
-use crate::stop::Stop;
+ghost use Rattle.std.specs.Prelude.{◌≡◌, true, is_some, is_ok};
+ghost use Rattle.book.specs.Books.{state, handed_back};
+
+use anyhow::anyhow;
 use book::book::Book;
 use book::slip::Slip;
 use model::job::Job;
@@ -16,7 +19,12 @@ pub enum Way {
 
 impl Way {
     // Brings a slip to a book.
-    pub fn bring(self, book: &mut Book, slip: Slip) -> Result<(), (Slip, Refusal)> {
+    pub fn bring(self, book: &mut Book, slip: Slip) -> Result<(), (Slip, Refusal)>
+        ensures back { handed_back slip result }
+        ensures number { (state book.new).number ≡ (state book.old).number }
+        ensures foreign { (slip.book ≡ (state book.old).number → ⊥) → state book.new ≡ state book.old }
+        ensures spends { is_some (state book.old).held ≡ true → slip.book ≡ (state book.old).number → is_ok result ≡ true }
+    {
         match self {
             Way::Take => book.take(slip),
             Way::Release => book.release(slip),
@@ -38,17 +46,20 @@ pub fn bring_other(
     book: &mut Book,
     number: u16,
     way: Way,
-) -> Result<Result<(), Refusal>, Stop> {
+) -> anyhow::Result<Result<(), Refusal>>
+    ensures number { (state book.new).number ≡ (state book.old).number }
+    ensures foreign { (number ≡ (state book.old).number → ⊥) → state book.new ≡ state book.old }
+{
     let mut other = Book::new(heap, number)?;
     let slip = match other.hold(SMALL, &Ladder::smallest()) {
         Ok(slip) => slip,
-        Err(_) => return Err(Stop::Fault("a new book refused a small job".into())),
+        Err(_) => return Err(anyhow!("a new book refused a small job")),
     };
     match way.bring(book, slip) {
         Ok(()) => Ok(Ok(())),
         Err((slip, why)) => match other.release(slip) {
             Ok(()) => Ok(Err(why)),
-            Err((slip, _)) => Err(Stop::Unspent(slip)),
+            Err((_slip, _why)) => unreachable(),
         },
     }
 }
