@@ -15,6 +15,9 @@ fn digit_at(bytes: &[u8], at: usize) -> Option<u64>
     Some(u64::from(byte - b'0'))
 }
 
+// How many digits a number has at the most.
+const DIGITS: usize = 10;
+
 // Reads the number of at most ten digits at a place, and answers it with the place after it.
 pub fn read_number(bytes: &[u8], start: usize) -> Option<(u64, usize)>
     ensures { NumberAt bytes.now start result }
@@ -22,7 +25,7 @@ pub fn read_number(bytes: &[u8], start: usize) -> Option<(u64, usize)>
     let mut at = start;
     let mut n = 0;
     while let Some(digit) = digit_at(bytes, at) {
-        if at - start >= 10 {
+        if at - start >= DIGITS {
             return None;
         }
         n = 10 * n + digit;

@@ -14,7 +14,7 @@ pub returns-then-byte-eq0 : goal.returns-then-byte-eq0
 returns-then-byte-eq0 c =
     let l = c.loop-k in
     let b = get_or c.args.bytes.now l.at 0 in
-    record { reads = padded c.args.bytes.now c.args.start l.at l.k l.n l.scale b l.invariant c.loop-k-test.true (omega arith) refl c.if-k-gt0.true c.if-byte-eq0.true; exact = tt }
+    record { reads = padded c.args.bytes.now c.args.start l.at l.k l.n l.scale b l.invariant c.loop-k-test.true (omega arith) refl (omega arith) c.if-byte-eq0.true; exact = tt }
 
 pub overflow_mul-result : goal.overflow_mul-result
 overflow_mul-result c =

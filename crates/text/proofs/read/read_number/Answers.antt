@@ -3,11 +3,11 @@ use Rattle.text.proofs.Partway.{small, on_by, begun, none_there, needless, too_l
 use Rattle.text.proofs.read.read_number.Goals as goal
 use Rattle.text.proofs.read.read_number.Goals.{else-bytes-start-eq48-via-then-bytes-start-eq48+else-at-start-gt1, else-bytes-start-eq48-via-else-bytes-start-eq48}
 
-pub returns-then-at-start-ge10 : goal.returns-then-at-start-ge10
-returns-then-at-start-ge10 c =
+pub returns-then-at-start-ge-DIGITS : goal.returns-then-at-start-ge-DIGITS
+returns-then-at-start-ge-DIGITS c =
     let l = c.loop-digit in
     let d = c.in-Some.ensures in
-    too_long c.args.bytes.now c.args.start l.at l.n l.invariant d.0 d.1.0 d.1.1 c.if-at-start-ge10.true
+    too_long c.args.bytes.now c.args.start l.at l.n l.invariant d.0 d.1.0 d.1.1 c.if-at-start-ge-DIGITS.true
 
 pub overflow_mul-n : goal.overflow_mul-n
 overflow_mul-n c =
@@ -26,7 +26,7 @@ pub loop-digit-preserved : goal.loop-digit-preserved
 loop-digit-preserved c =
     let l = c.loop-digit in
     let d = c.in-Some.ensures in
-    on_by c.args.bytes.now c.args.start l.at l.n c.in-Some.digit l.invariant d.0 d.1.0 d.1.1 d.2 c.if-at-start-ge10.false
+    on_by c.args.bytes.now c.args.start l.at l.n c.in-Some.digit l.invariant d.0 d.1.0 d.1.1 d.2 c.if-at-start-ge-DIGITS.false
 
 pub returns-then-at-start : goal.returns-then-at-start
 returns-then-at-start c =

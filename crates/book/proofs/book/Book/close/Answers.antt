@@ -1,4 +1,4 @@
-use Rattle.std.proofs.Common.{◌≡◌, ℕ, ◌+◌, ◌-◌, ◌<◌, ◌≤◌, Bool, true, false, List, [], ◌∷◌, get_or, Err, Result, sym, refl, ap, ◌∙◌, subst, arith}
+use Rattle.std.proofs.Common.{◌≡◌, ℕ, ◌+◌, ◌-◌, ◌<◌, ◌≤◌, Bool, true, false, List, [], ◌∷◌, get_or, Err, Result, sym, refl, ap, ◌∙◌, subst, arith, rules}
 use Rattle.std.proofs.lemmas.Result.{err_from_is_err_and}
 use Rattle.model.specs.Sums.{sum_to}
 use Rattle.model.specs.Charges.{charge, cost}
@@ -91,7 +91,7 @@ invariant_of-self-2 g c =
     let r = left_by steps c.jobs.result.now (jobs_of b.queue) c.segments.result.now (rows_of b.charges) (rows_of c.settle.new.charges) c.jobs.ensures (c.segments.ensures ∙ d.made.0) c.settle.ensures.all in
     let u : sum_to 65 (λ a. get_or (rows_of b.charges) a 0) + cost steps (jobs_of b.queue) ≤ charge_limit =
     under (sum_to 65 (λ a. get_or (rows_of b.charges) a 0)) c.work_out.new.self.energy c.energy-energy.result (cost steps (jobs_of b.queue)) c.total.result c.total.ensures c.energy-energy.ensures d.made.1 c.if-energy-total.false b.within
-    in record { waits = none_waits (jobs_of c.clear.new.self) b.held (sym c.if-is_some.ensures); within = still_within steps (jobs_of b.queue) (rows_of b.charges) (rows_of c.settle.new.charges) b.queue.order r u }
+    in record { waits = none_waits _ b.held (sym c.if-is_some.ensures); within = still_within steps (jobs_of b.queue) (rows_of b.charges) (rows_of c.settle.new.charges) b.queue.order r u }
 
 pub returns : goal.returns
 unfolding charged
@@ -101,9 +101,10 @@ returns g c =
     let steps = g.P.Processor.steps c.args.processor.now in
     let d = c.in_ok-work_out.ensures in
     let r = left_by steps c.jobs.result.now (jobs_of b.queue) c.segments.result.now (rows_of b.charges) (rows_of c.settle.new.charges) c.jobs.ensures (c.segments.ensures ∙ d.made.0) c.settle.ensures.all in
-    let p =
-    close_done s steps c.energy-energy.result (jobs_of c.clear.new.self) (rows_of c.settle.new.charges) (g.met.P.Processor.lawful c.args.processor.now) (sym c.if-is_some.ensures) d.answer
+    let left =
+    λ (jobs : List Job) (none : jobs ≡ []).
+    close_done s steps c.energy-energy.result jobs (rows_of c.settle.new.charges) (g.met.P.Processor.lawful c.args.processor.now) (sym c.if-is_some.ensures) d.answer
     (under (sum_to 65 (λ a. get_or (rows_of b.charges) a 0)) c.work_out.new.self.energy c.energy-energy.result (cost steps s.jobs) c.total.result c.total.ensures c.energy-energy.ensures d.made.1 c.if-energy-total.false b.within)
-    (c.energy-energy.ensures ∙ d.made.1) c.clear.ensures r
+    (c.energy-energy.ensures ∙ d.made.1) none r
     in
-    record { answer = p.answers; state = p.becoming; sound = p.sounds }
+    record { answer = (left [] refl).answers; state = (left _ (search rules)).becoming; sound = (left _ (search rules)).sounds }
