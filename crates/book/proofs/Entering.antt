@@ -1,6 +1,6 @@
 -- Enter, strike, plan, take and release, by their outcomes.
-use Rattle.std.proofs.Common.{◌≡◌, ℕ, ◌-◌, Bool, true, false, cond, not, ◌||◌, eqb, List, [], ◌∷◌, ◌++◌, length, take, drop, is_some, is_ok, IfOk, Some, None, Ok, Err, Option, Result, sym, refl, ap, ◌∙◌, subst}
-use Rattle.std.proofs.lemmas.Bool.{true≢false, or_left, or_right, or_from, not_from_true, not_from_false, eq-eqb, ne_eqb}
+use Rattle.std.proofs.Common.{◌≡◌, ℕ, ◌-◌, true, false, cond, eqb, List, [], ◌∷◌, ◌++◌, length, take, drop, is_some, is_ok, IfOk, Some, None, Ok, Err, Option, Result, sym, refl, ap, ◌∙◌, subst}
+use Rattle.std.proofs.lemmas.Bool.{or_left, or_right, or_from, not_from_true, not_from_false, eq-eqb, ne_eqb}
 use Rattle.model.specs.Steps.{Lawful}
 use Rattle.model.specs.Plan.{plan}
 use Rattle.model.specs.Charges.{cost}
@@ -10,10 +10,10 @@ use Rattle.model.specs.declared.step.Step.{Step as Level}
 use Rattle.planner.specs.Planning.{plan_lines}
 use Rattle.planner.specs.declared.plan.Planned.{Planned}
 use Rattle.queue.specs.Queues.{push_lines}
-use Rattle.refusal.specs.Refusals.{Told, told, told_of, outcome, line, first_of}
+use Rattle.refusal.specs.Refusals.{told, told_of, outcome, line, first_of}
 use Rattle.refusal.specs.declared.refusal.Refusal.{Refusal}
 use Rattle.refusal.proofs.Lines.{first_hit, first_pass}
-use Rattle.book.specs.Calls.{State, Answer, open_line, slip_line, with_job, joined_by, standing_with, lines, accepts, becomes}
+use Rattle.book.specs.Calls.{State, open_line, slip_line, joined_by, standing_with, lines, accepts, becomes}
 use Rattle.book.specs.Calls.Call.{enters, takes, releases, strikes, plans}
 use Rattle.book.specs.Calls.Answer.{refused, done, planned}
 use Rattle.book.specs.Books.{said, said_plan}

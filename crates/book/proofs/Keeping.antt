@@ -1,9 +1,9 @@
 -- What every book keeps: its jobs stand, there are at most 256, and the job of an open hold may be put last.
-use Rattle.std.proofs.Common.{◌≡◌, ℕ, zero, suc, ◌+◌, ◌-◌, ◌<◌, ◌≤◌, min, Bool, true, false, cond, ◌⊎◌, List, [], ◌∷◌, ◌++◌, length, take, is_some, Some, None, Option, sym, refl, ap, ◌∙◌, subst, inl, inr, arith}
+use Rattle.std.proofs.Common.{◌≡◌, ℕ, ◌-◌, ◌≤◌, true, false, List, [], ◌∷◌, ◌++◌, length, is_some, Some, None, Option, sym, refl, ap, ◌∙◌, subst, inl, inr, arith}
 use Rattle.std.proofs.lemmas.List.{length_push, length-take}
 use Rattle.std.proofs.lemmas.Bool.{cases_Bool, true≢false}
 use Rattle.model.specs.declared.job.Job.{Job}
-use Rattle.refusal.specs.Refusals.{Told, told, Line, line, first_of}
+use Rattle.refusal.specs.Refusals.{Told, told, Line, first_of}
 use Rattle.refusal.proofs.Lines.{first_hit, first_pass, none_or_some}
 use Rattle.queue.specs.Queues.{push_lines, standing}
 use Rattle.queue.proofs.Order.{standing_none, standing_take}

@@ -1,11 +1,10 @@
 -- Hold, by its outcomes.
-use Rattle.std.proofs.Common.{◌≡◌, ℕ, suc, ◌+◌, ◌-◌, ◌*◌, ◌<◌, ◌≤◌, Bool, true, false, cond, ltb, ◌⊎◌, List, [], ◌∷◌, ◌++◌, length, get_or, take, is_some, is_ok, Some, None, Ok, Err, Option, Result, sym, refl, ap, ◌∙◌, subst, inl, inr, arith, MatchResult}
+use Rattle.std.proofs.Common.{◌≡◌, ℕ, suc, ◌+◌, ◌-◌, ◌*◌, ◌<◌, ◌≤◌, true, false, ltb, List, [], ◌∷◌, ◌++◌, length, take, is_some, Some, None, Option, sym, refl, ap, ◌∙◌, inl, inr, arith}
 use Rattle.std.proofs.lemmas.List.{length_push, get_or_append_left, take_at}
-use Rattle.std.proofs.lemmas.Bool.{cases_Bool, both_ways, true≢false, lt-ltb, le-ltb}
-use Rattle.model.specs.Sums.{sum_to}
+use Rattle.std.proofs.lemmas.Bool.{cases_Bool, true≢false, lt-ltb, le-ltb}
 use Rattle.model.specs.Steps.{Lawful, top_speed}
 use Rattle.model.specs.Jobs.{job_at, no_job}
-use Rattle.model.specs.Speed.{load, want, wanting, overfull}
+use Rattle.model.specs.Speed.{load, want}
 use Rattle.model.specs.Charges.{cost, price}
 use Rattle.model.proofs.Sums.{sum_to_cong}
 use Rattle.model.specs.declared.job.Job.{Job}
@@ -13,10 +12,9 @@ use Rattle.model.specs.declared.step.Step.{Step as Level}
 use Rattle.theory.proofs.Wanting.{want_none, want_some}
 use Rattle.planner.specs.Planning.{want_line}
 use Rattle.queue.specs.Queues.{push_lines}
-use Rattle.refusal.specs.Refusals.{Told, told, told_of, outcome, Line, line, first_of}
-use Rattle.refusal.specs.declared.refusal.Refusal.{Refusal}
+use Rattle.refusal.specs.Refusals.{Told, told, line, first_of}
 use Rattle.refusal.proofs.Lines.{first_hit, first_pass}
-use Rattle.book.specs.Calls.{State, Answer, open_line, price_lines, with_job, holding, lines, accepts, becomes}
+use Rattle.book.specs.Calls.{State, open_line, price_lines, with_job, holding, lines, accepts, becomes}
 use Rattle.book.specs.Calls.Call.{holds}
 use Rattle.book.specs.Calls.Answer.{refused, priced}
 use Rattle.book.proofs.Keeping.{clear_first, clear_front}

@@ -1,12 +1,11 @@
 -- What a call promises, from its table: its answer, the book after it, and soundness of every list that it ends.
-use Rattle.std.proofs.Common.{◌≡◌, ℕ, Bool, true, false, cond, not, ◌||◌, ◌⊎◌, List, [], ◌∷◌, ◌++◌, is_some, Some, None, Option, sym, refl, ap, ◌∙◌, subst, subst₂, inl, inr}
+use Rattle.std.proofs.Common.{◌≡◌, Bool, true, false, cond, List, [], ◌∷◌, ◌++◌, is_some, Some, None, Option, sym, refl, ap, ◌∙◌, subst₂}
 use Rattle.std.proofs.lemmas.Bool.{true≢false}
 use Rattle.model.specs.declared.job.Job.{Job}
 use Rattle.refusal.specs.Refusals.{Told, told, Line, first_of}
-use Rattle.refusal.proofs.Lines.{first_hit, first_pass}
-use Rattle.book.specs.Calls.{State, Call, Answer, open_line, lines, accepts, becomes, answer, after, run_from, run, new}
+use Rattle.book.specs.Calls.{State, Call, Answer, lines, accepts, becomes, answer, after, run, new}
 use Rattle.book.specs.Calls.Answer.{refused}
-use Rattle.book.specs.Sound.{LawfulCall, AllLawful, Sound}
+use Rattle.book.specs.Sound.{LawfulCall, AllLawful}
 use Rattle.book.specs.Books.{SoundWith}
 use Rattle.book.proofs.Steps.{answer_refused, answer_accepted, after_refused, after_accepted, run_push}
 use Rattle.book.proofs.Soundness.{sound}

@@ -1,7 +1,6 @@
 -- Every list of calls on a new book is sound: by induction along the list, from what every book keeps.
-use Rattle.std.proofs.Common.{◌≡◌, ℕ, suc, ◌+◌, Bool, true, false, ltb, ◌⊎◌, List, [], ◌∷◌, ◌++◌, length, drop, is_some, Some, None, Option, sym, refl, ap, ◌∙◌, subst, inl, inr, add-zero, arith}
+use Rattle.std.proofs.Common.{◌≡◌, ℕ, suc, ◌+◌, true, false, ltb, List, [], ◌∷◌, length, is_some, Some, None, Option, sym, refl, ap, ◌∙◌, subst, inl, inr, add-zero, arith}
 use Rattle.std.proofs.lemmas.Bool.{cases_Bool, true≢false, both_ways}
-use Rattle.model.specs.Steps.{Lawful}
 use Rattle.model.specs.Plan.{plan}
 use Rattle.model.specs.Charges.{cost}
 use Rattle.model.specs.Speed.{want, wanting}
@@ -11,12 +10,12 @@ use Rattle.model.specs.declared.step.Step.{Step}
 use Rattle.queue.proofs.Order.{ordered_from}
 use Rattle.planner.specs.Planning.{Worth, want_line, room_line, plan_lines}
 use Rattle.planner.proofs.Worthy.{worthy}
-use Rattle.refusal.specs.Refusals.{Told, told, line, first_of}
+use Rattle.refusal.specs.Refusals.{Told, told, first_of}
 use Rattle.refusal.proofs.Lines.{first_hit, first_pass, none_or_some}
 use Rattle.book.specs.Calls.{State, Call, Answer, new, charged, limit_line, open_line, lines, accepts, answer, after, run_from, run}
 use Rattle.book.specs.Calls.Call.{enters, holds, takes, releases, strikes, plans, closes}
-use Rattle.book.specs.Calls.Answer.{refused, done, priced, planned, closed}
-use Rattle.book.specs.Sound.{LawfulCall, AllLawful, PlanGood, WantExact, CloseLeast, Good, AllGood, energy_closed, closed_energy, Sound}
+use Rattle.book.specs.Calls.Answer.{refused}
+use Rattle.book.specs.Sound.{LawfulCall, AllLawful, PlanGood, WantExact, CloseLeast, Good, AllGood, closed_energy, Sound}
 use Rattle.book.proofs.Steps.{answer_refused, answer_accepted}
 use Rattle.book.proofs.Keeping.{Kept, clear_first, kept_after, kept_new}
 use Rattle.book.proofs.Totals.{charged_after, charged_new}

@@ -1,5 +1,5 @@
 -- One call: its answer and the book after it, by whether its table refuses it.
-use Rattle.std.proofs.Common.{◌≡◌, List, [], ◌∷◌, ◌++◌, Some, None, Option, sym, refl, ap, ◌∙◌, subst}
+use Rattle.std.proofs.Common.{◌≡◌, List, [], ◌∷◌, ◌++◌, Some, None, Option, refl, ap}
 use Rattle.refusal.specs.Refusals.{Told, first_of}
 use Rattle.book.specs.Calls.{State, Call, Answer, lines, accepts, becomes, answer, after, run_from}
 use Rattle.book.specs.Calls.Answer.{refused}

@@ -1,10 +1,10 @@
 -- All charges together: each accepted close raises them by its energy, and nothing else does.
-use Rattle.std.proofs.Common.{◌≡◌, ℕ, zero, suc, ◌+◌, ◌<◌, ◌≤◌, Bool, true, false, ◌⊎◌, List, [], ◌∷◌, ◌++◌, length, get_or, replicate, sym, refl, ap, ◌∙◌, subst, inl, inr, add-zero, arith}
+use Rattle.std.proofs.Common.{◌≡◌, ℕ, zero, suc, ◌+◌, ◌<◌, true, List, [], ◌∷◌, length, get_or, sym, refl, ap, ◌∙◌, inl, inr, add-zero, arith}
 use Rattle.std.proofs.lemmas.List.{length_push, get_or_push, get_or_append_left}
 use Rattle.std.proofs.lemmas.Bool.{cases_lt}
 use Rattle.model.specs.Sums.{sum_to}
 use Rattle.model.specs.Jobs.{job_at}
-use Rattle.model.specs.Plan.{plan, energy}
+use Rattle.model.specs.Plan.{plan}
 use Rattle.model.specs.Charges.{charge, cost}
 use Rattle.model.proofs.Sums.{sum_to_cong, sum_to_add}
 use Rattle.model.specs.declared.job.Job.{Job}

@@ -8,7 +8,7 @@ use Rattle.refusal.specs.Refusals.{told_of}
 use Rattle.refusal.specs.declared.refusal.Refusal.{Refusal}
 use Rattle.book.specs.declared.book.Book.{Book}
 use Rattle.book.specs.declared.slip.Slip.{Slip}
-use Rattle.book.specs.Calls.{State, Call, Answer, after, run}
+use Rattle.book.specs.Calls.{State, Call, Answer, run}
 use Rattle.book.specs.Calls.Answer.{refused, done, priced, planned, closed}
 use Rattle.book.specs.Sound.{AllLawful, Sound}
 

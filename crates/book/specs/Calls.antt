@@ -1,6 +1,6 @@
 -- A book of jobs and its seven calls: when each is refused, what it answers, and what the book is after it.
 -- A processor stands in a call as its list of steps, and the lent buffer of plan as what it holds.
-use Rattle.std.specs.Prelude.{ℕ, ◌+◌, ◌-◌, Bool, true, false, not, ◌||◌, List, [], ◌∷◌, ◌++◌, length, take, drop, replicate, is_some, Some, None, Option, ◌==◌, nat_lt, slice_index}
+use Rattle.std.specs.Prelude.{ℕ, ◌+◌, ◌-◌, not, ◌||◌, List, [], ◌∷◌, ◌++◌, length, take, drop, replicate, is_some, Some, None, Option, ◌==◌, nat_lt, slice_index}
 use Rattle.model.specs.Sums.{sum_to}
 use Rattle.model.specs.Plan.{plan}
 use Rattle.model.specs.Charges.{cost, price}

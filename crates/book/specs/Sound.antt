@@ -2,11 +2,9 @@
 use Rattle.std.specs.Prelude.{◌≡◌, ℕ, ◌+◌, List, [], ◌∷◌, ◌++◌, length, drop, None}
 use Rattle.model.specs.Steps.{Lawful}
 use Rattle.model.specs.Plan.{plan, energy}
-use Rattle.model.specs.Speed.{wanting}
 use Rattle.model.specs.Ways.{Serves, Least, Runnable, Unbeaten}
 use Rattle.model.specs.declared.segment.Segment.{Segment}
 use Rattle.model.specs.declared.step.Step.{Step}
-use Rattle.refusal.specs.Refusals.{Told}
 use Rattle.book.specs.Calls.{State, Call, Answer, new, charged, answer, after, run}
 use Rattle.book.specs.Calls.Call.{enters, holds, takes, releases, strikes, plans, closes}
 use Rattle.book.specs.Calls.Answer.{refused, done, priced, planned, closed}

@@ -3,7 +3,7 @@ use Rattle.std.proofs.Common.{◌≡◌, ℕ, zero, suc, ◌+◌, ◌<◌, ◌�
 use Rattle.std.proofs.lemmas.List.{at_drop_more, at_drop_all, length_push, get_or_push, get_or_append_left, ext_get_or}
 use Rattle.std.proofs.lemmas.Bool.{cases_lt}
 use Rattle.model.specs.Sums.{sum_of}
-use Rattle.model.specs.Plan.{segment, ticks_of}
+use Rattle.model.specs.Plan.{ticks_of}
 use Rattle.model.specs.Charges.{charge_from, charge}
 use Rattle.model.specs.declared.job.Job.{Job}
 use Rattle.model.specs.declared.segment.Segment.{Segment}

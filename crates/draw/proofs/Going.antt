@@ -1,5 +1,5 @@
 -- What holds while a plan is drawn: the runs drawn so far with those still to come give the plan, and so do their energies.
-use Rattle.std.proofs.Common.{◌≡◌, ℕ, suc, ◌+◌, ◌-◌, ◌*◌, ◌<◌, ◌≤◌, cond, leb, List, [], ◌∷◌, ◌++◌, length, get_or, take, drop, sym, refl, ap, ◌∙◌, subst, ap₂, subst₂, arith}
+use Rattle.std.proofs.Common.{◌≡◌, ℕ, suc, ◌+◌, ◌*◌, ◌<◌, ◌≤◌, cond, leb, List, [], ◌∷◌, ◌++◌, length, get_or, take, drop, sym, refl, ap, ◌∙◌, subst, ap₂, subst₂, arith}
 use Rattle.model.specs.Sums.{sum_of}
 use Rattle.model.specs.Jobs.{total, span, cuts}
 use Rattle.model.specs.Path.{piece_at}

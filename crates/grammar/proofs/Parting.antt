@@ -1,6 +1,6 @@
 -- Pieces between separators: found one by one from the front, and put together again.
 use Rattle.std.proofs.Common.{◌≡◌, ℕ, ◌+◌, ◌-◌, ◌<◌, ◌≤◌, Bool, true, false, cond, eqb, List, [], ◌∷◌, ◌++◌, length, get_or, take, drop, Some, None, sym, refl, ap, ◌∙◌, subst, arith}
-use Rattle.std.proofs.lemmas.List.{append-nil, append_assoc, take_more, take_all, take-append-drop, drop_more, drop-drop, length-drop, get_or-drop}
+use Rattle.std.proofs.lemmas.List.{take_more, take_all, take-append-drop, drop_more, drop-drop, length-drop, get_or-drop}
 use Rattle.std.proofs.lemmas.Bool.{cond-true, cond-false, eq-eqb, ne_eqb, eqb-true}
 use Rattle.grammar.specs.Pieces.{led, pieces, line_feed, LineAt}
 

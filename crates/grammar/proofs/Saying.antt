@@ -1,8 +1,8 @@
 -- A line says a row exactly where it is the row's text.
-use Rattle.std.proofs.Common.{◌≡◌, ℕ, ◌<◌, ◌≤◌, Bool, true, false, cond, ◌&&◌, eqb, ◌⊎◌, List, [], ◌∷◌, ◌++◌, map, length, get_or, drop, Some, None, decimal, Option, sym, refl, ap, ◌∙◌, subst, inl, inr, arith, lit<}
+use Rattle.std.proofs.Common.{◌≡◌, ℕ, ◌<◌, ◌≤◌, Bool, true, false, cond, eqb, ◌⊎◌, List, [], ◌∷◌, ◌++◌, map, length, get_or, drop, Some, None, decimal, Option, sym, refl, ap, ◌∙◌, subst, inl, inr, arith}
 use Rattle.std.proofs.lemmas.List.{drop_all, nil_from_length}
 use Rattle.std.proofs.lemmas.Bool.{cond-true, cond-false, and_parts, eqb-true}
-use Rattle.grammar.specs.Pieces.{space, pieces, words}
+use Rattle.grammar.specs.Pieces.{space, pieces}
 use Rattle.grammar.specs.Rows.{numbers, letter, rung, task, of_numbers, says, by_words, row_of, fields, letter_of, numbers_of, row_text, Small, Exactly, Fields}
 use Rattle.grammar.specs.declared.row.Row.{Row}
 use Rattle.grammar.specs.declared.row.Row.TheVariants.{Rung, Task, Draw}

@@ -2,10 +2,8 @@
 use Rattle.std.specs.Prelude.{◌≡◌, ℕ, ◌<◌, Bool, true, false, cond, not, ◌&&◌, ◌||◌, List, [], ◌∷◌, ◌++◌, length, Some, None, decimal, Option, ◌==◌, ◌≢◌, nat_le, slice_index}
 use Rattle.std.specs.Str.Parse.{digits_value}
 use Rattle.std.specs.Str.{all_ascii_digits}
-use Rattle.model.specs.declared.job.Job.{Job}
-use Rattle.model.specs.declared.step.Step.{Step}
 use Rattle.text.specs.Numerals.{ten_digits}
-use Rattle.grammar.specs.Pieces.{space, line_feed, words}
+use Rattle.grammar.specs.Pieces.{space, words}
 use Rattle.grammar.specs.declared.row.Row.{Row}
 use Rattle.grammar.specs.declared.row.Row.TheVariants.{Rung, Task, Draw}
 

@@ -1,7 +1,7 @@
 -- Laws of the sums and tests over the numbers below a bound.
-use Rattle.std.proofs.Common.{◌≡◌, ℕ, zero, suc, ◌+◌, ◌-◌, ◌*◌, ◌<◌, ◌≤◌, Bool, true, false, cond, ◌&&◌, ◌||◌, ◌⊎◌, List, [], ◌∷◌, ◌++◌, sym, refl, ap, ◌∙◌, subst, inl, inr, add-zero, add_assoc, add-suc, add-mul, mul-zero, zero-add, mul-add, arith}
-use Rattle.std.proofs.lemmas.Bool.{and_parts, and_from, or_cases, or_left, or_right, or_parts, cases_lt, true≢false, cases_Bool, both_ways}
-use Rattle.model.specs.Sums.{sum_to, all_below, any_below, sum_of, some_of}
+use Rattle.std.proofs.Common.{◌≡◌, ℕ, zero, suc, ◌+◌, ◌-◌, ◌*◌, ◌<◌, ◌≤◌, Bool, true, false, sym, refl, ap, inl, inr, add-zero, add-suc, mul-zero, mul-add, arith}
+use Rattle.std.proofs.lemmas.Bool.{and_parts, and_from, or_cases, or_left, or_right, cases_lt, true≢false, cases_Bool, both_ways}
+use Rattle.model.specs.Sums.{sum_to, all_below, any_below}
 
 pub sum_to_zero : (f : ℕ → ℕ) → sum_to 0 f ≡ 0
 unfolding sum_to

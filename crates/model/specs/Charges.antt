@@ -1,5 +1,5 @@
 -- Who pays for a plan, tick by tick, and what one job more would cost.
-use Rattle.std.specs.Prelude.{ℕ, zero, suc, ◌+◌, ◌-◌, ◌*◌, Bool, true, false, cond, List, [], ◌∷◌, ◌++◌, ◌==◌, nat_lt}
+use Rattle.std.specs.Prelude.{ℕ, zero, suc, ◌+◌, ◌-◌, ◌*◌, cond, List, [], ◌∷◌, ◌++◌, ◌==◌, nat_lt}
 use Rattle.model.specs.Steps.{unit, speed_at, power_at}
 use Rattle.model.specs.Plan.{plan, energy}
 use Rattle.model.specs.declared.job.Job.{Job}

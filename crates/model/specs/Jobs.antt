@@ -1,5 +1,5 @@
 -- Jobs in book order, the two walls that they make, and the times at which something changes.
-use Rattle.std.specs.Prelude.{ℕ, suc, ◌<◌, ◌≤◌, max, Bool, true, false, cond, ◌||◌, List, [], ◌∷◌, length, ◌==◌, nat_eq, nat_le, nat_lt, slice_index_or}
+use Rattle.std.specs.Prelude.{ℕ, suc, ◌<◌, ◌≤◌, max, Bool, cond, List, [], ◌∷◌, length, ◌==◌, nat_eq, nat_le, nat_lt, slice_index_or}
 use Rattle.model.specs.Sums.{sum_of, some_of}
 use Rattle.model.specs.declared.job.Job.{Job}
 

@@ -1,6 +1,6 @@
 -- The path between the walls: the law that it keeps, and the one path that keeps it.
 -- A path is written as its corners after the start, which is time 0 and height 0; the last is its end.
-use Rattle.std.specs.Prelude.{◌≡◌, ℕ, suc, ◌+◌, ◌-◌, ◌*◌, ◌≤◌, Bool, true, false, cond, not, ◌&&◌, ◌||◌, List, [], ◌∷◌, ◌++◌, map, ◌==◌, nat_le, nat_lt}
+use Rattle.std.specs.Prelude.{◌≡◌, ℕ, suc, ◌+◌, ◌-◌, ◌*◌, Bool, cond, not, ◌&&◌, ◌||◌, List, [], ◌∷◌, ◌++◌, map, ◌==◌, nat_le, nat_lt}
 use Rattle.model.specs.Sums.{all_below}
 use Rattle.model.specs.Jobs.{total, span, ceiling, floor, arrives, due, cuts}
 use Rattle.model.specs.declared.job.Job.{Job}

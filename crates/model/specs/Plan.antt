@@ -1,5 +1,5 @@
 -- From the path to the plan: between neighbouring cuts first the slower, then the faster of the two neighbouring steps.
-use Rattle.std.specs.Prelude.{ℕ, zero, suc, ◌+◌, ◌-◌, ◌*◌, ◌/◌, Bool, true, false, cond, List, [], ◌∷◌, ◌++◌, length, ◌==◌, nat_le}
+use Rattle.std.specs.Prelude.{ℕ, suc, ◌+◌, ◌-◌, ◌*◌, ◌/◌, cond, List, [], ◌∷◌, ◌++◌, length, ◌==◌, nat_le}
 use Rattle.model.specs.Sums.{sum_to, sum_of}
 use Rattle.model.specs.Steps.{unit, speed_at, power_at, gap}
 use Rattle.model.specs.Jobs.{cuts}

@@ -1,5 +1,5 @@
 -- Every way of running the jobs, when a plan serves them, and the least energy.
-use Rattle.std.specs.Prelude.{◌≡◌, ℕ, suc, ◌+◌, ◌-◌, ◌*◌, ◌<◌, ◌≤◌, min, Bool, true, false, cond, ◌⊎◌, List, [], ◌∷◌, length, nat_lt}
+use Rattle.std.specs.Prelude.{◌≡◌, ℕ, suc, ◌-◌, ◌*◌, ◌<◌, ◌≤◌, min, cond, List, [], ◌∷◌, length, nat_lt}
 use Rattle.model.specs.Sums.{sum_to}
 use Rattle.model.specs.Steps.{unit, speed_at, power_at}
 use Rattle.model.specs.Jobs.{job_at, total, span}

@@ -1,5 +1,5 @@
 -- Working out a plan: what the search, the survey, the sweep and the drawing come to together.
-use Rattle.std.proofs.Common.{◌≡◌, ℕ, suc, ◌+◌, ◌-◌, ◌<◌, ◌≤◌, min, Bool, true, false, cond, ltb, ◌⊎◌, List, [], ◌∷◌, length, take, is_some, Some, None, Option, sym, refl, ap, ◌∙◌, subst, inl, inr, add-one, arith}
+use Rattle.std.proofs.Common.{◌≡◌, ℕ, suc, ◌+◌, ◌-◌, ◌<◌, ◌≤◌, true, false, List, [], ◌∷◌, length, take, is_some, Some, None, Option, sym, ap, ◌∙◌, subst, inl, inr, add-one, arith}
 use native.Mathlib.Nat.{sub-zero}
 use Rattle.std.proofs.lemmas.List.{length-take}
 use Rattle.std.proofs.lemmas.Bool.{cases_Bool, cond-true, cond-false, true≢false, ltb-true}
@@ -13,7 +13,7 @@ use Rattle.model.specs.declared.job.Job.{Job}
 use Rattle.model.specs.declared.point.Point.{Point}
 use Rattle.model.specs.declared.segment.Segment.{Segment}
 use Rattle.model.specs.declared.step.Step.{Step}
-use Rattle.refusal.specs.Refusals.{Told, told, first_of}
+use Rattle.refusal.specs.Refusals.{told, first_of}
 use Rattle.refusal.proofs.Lines.{first_hit, first_pass}
 use Rattle.want.specs.Wanted.{wanted}
 use Rattle.theory.specs.Survey.{survey}

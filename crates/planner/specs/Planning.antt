@@ -1,12 +1,12 @@
 -- Planning a queue of jobs: when it is refused, and what an accepted plan is worth.
-use Rattle.std.specs.Prelude.{◌≡◌, ℕ, suc, Bool, true, false, List, [], ◌∷◌, length, Some, Option, nat_lt}
+use Rattle.std.specs.Prelude.{◌≡◌, ℕ, suc, true, false, List, [], ◌∷◌, length, nat_lt}
 use Rattle.model.specs.Plan.{plan}
 use Rattle.model.specs.Speed.{want, wanting}
 use Rattle.model.specs.Ways.{Serves, Least, Runnable}
 use Rattle.model.specs.Charges.{cost}
 use Rattle.model.specs.declared.job.Job.{Job}
 use Rattle.model.specs.declared.step.Step.{Step}
-use Rattle.refusal.specs.Refusals.{Told, told, Line, line}
+use Rattle.refusal.specs.Refusals.{Line, line}
 
 -- the refusal for want of speed, which names the job, counted from 1
 abbrev pub want_line : List Step → List Job → Line

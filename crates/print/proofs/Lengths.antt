@@ -2,7 +2,7 @@
 use Rattle.std.proofs.Common.{◌≡◌, ℕ, ◌+◌, ◌<◌, ◌≤◌, List, [], ◌∷◌, ◌++◌, length, get_or, take, drop, decimal, sym, refl, ap, ◌∙◌, arith}
 use Rattle.std.proofs.lemmas.List.{append_assoc, append-nil, length-append, take_more, take-append-drop}
 use Rattle.model.specs.declared.segment.Segment.{Segment}
-use Rattle.refusal.specs.Refusals.{Told, told}
+use Rattle.refusal.specs.Refusals.{told}
 use Rattle.print.specs.Texts.{segment_text, segments_text, energy_text, refused_text}
 
 -- what stands for a segment past the last

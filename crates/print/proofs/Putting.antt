@@ -1,5 +1,5 @@
 -- Segments put one after the other from the start.
-use Rattle.std.proofs.Common.{◌≡◌, ℕ, ◌+◌, ◌<◌, ◌≤◌, List, [], ◌∷◌, ◌++◌, length, get_or, take, sym, refl, ap, ◌∙◌, arith}
+use Rattle.std.proofs.Common.{ℕ, ◌+◌, ◌<◌, ◌≤◌, List, length, get_or, take, sym, refl, ap, ◌∙◌, arith}
 use Rattle.frame.proofs.Laid.{Put, put_on, laid_none}
 use Rattle.frame.specs.Laid.{laid}
 use Rattle.std.proofs.lemmas.List.{length-append, take_all}

@@ -1,6 +1,5 @@
 -- Two arrays paired place by place.
-use Rattle.std.proofs.Common.{◌≡◌, ℕ, zero, suc, ◌<◌, List, [], ◌∷◌, length, get_or, refl, ap, ap₂, arith}
-use native.Mathlib.Nat.{suc_inj}
+use Rattle.std.proofs.Common.{◌≡◌, ℕ, suc, ◌<◌, List, [], ◌∷◌, length, get_or, refl, ap₂, arith}
 use Rattle.model.specs.Steps.{no_step}
 use Rattle.model.specs.declared.step.Step.{Step}
 use Rattle.processor.specs.Rules.{paired}

@@ -1,5 +1,5 @@
 -- Making a ladder: which steps two arrays and a count name, and when they are refused.
-use Rattle.std.specs.Prelude.{ℕ, ◌-◌, ◌*◌, ◌%◌, Bool, true, false, cond, not, ◌&&◌, ◌||◌, List, [], ◌∷◌, length, take, Option, ◌==◌, nat_le, nat_lt}
+use Rattle.std.specs.Prelude.{ℕ, ◌-◌, ◌*◌, ◌%◌, Bool, cond, not, ◌&&◌, ◌||◌, List, [], ◌∷◌, length, take, Option, ◌==◌, nat_le, nat_lt}
 use Rattle.model.specs.Sums.{first_below}
 use Rattle.model.specs.Steps.{unit, speed_at, power_at, gap, climb}
 use Rattle.model.specs.declared.step.Step.{Step}

@@ -1,9 +1,8 @@
 -- A list of steps passes the table of rules exactly when it is lawful.
-use Rattle.std.specs.Prelude.{◌≡◌, ℕ, zero, suc, ◌-◌, ◌*◌, ◌%◌, ◌<◌, ◌≤◌, Bool, true, false, cond, not, ◌&&◌, ◌||◌, ltb, ◌⊎◌, List, [], ◌∷◌, length, is_some, Some, None, ◌==◌, nat_eq, nat_le, nat_lt}
+use Rattle.std.specs.Prelude.{◌≡◌, ℕ, zero, suc, ◌-◌, ◌*◌, ◌%◌, ◌<◌, ◌≤◌, true, false, ltb, List, [], ◌∷◌, length, is_some, None, ◌==◌, nat_eq, nat_le, nat_lt}
 use Rattle.std.proofs.Common.{inl, inr, arith}
 use mathlib.Core.Path.{refl, sym, subst, ap, ◌∙◌}
-use Rattle.std.proofs.lemmas.Bool.{and_parts, and_cases, and_from, and_left, and_right, or_parts, or_from, cases_Bool, both_ways, not-false, not_from_true, leb-true, le-leb, lt-leb, leb-false, ltb-false, le-ltb, eqb-true, eq-eqb, cond-true, cond-false, ne_eqb, lt-ltb, ltb-true}
-use Rattle.std.proofs.lemmas.Bool.Decides.{nat_tests}
+use Rattle.std.proofs.lemmas.Bool.{and_parts, and_cases, and_from, and_right, or_parts, or_from, both_ways, not-false, not_from_true, leb-true, le-leb, lt-leb, leb-false, ltb-false, le-ltb, eqb-true, eq-eqb, cond-false, ne_eqb, lt-ltb}
 use Rattle.model.specs.Sums.{first_below}
 use Rattle.model.specs.Steps.{unit, speed_at, power_at, gap, climb, Lawful}
 use Rattle.model.specs.declared.step.Step.{Step}

@@ -1,5 +1,5 @@
 -- A job that the table does not refuse may stand at the end.
-use Rattle.std.proofs.Common.{◌≡◌, ℕ, ◌<◌, Bool, true, false, not, ◌&&◌, leb, List, [], ◌∷◌, ◌++◌, length, is_some, None, Option, sym, refl, ap}
+use Rattle.std.proofs.Common.{◌≡◌, ◌<◌, true, false, not, leb, List, [], ◌∷◌, ◌++◌, length, is_some, None, Option, sym, ap}
 use Rattle.std.proofs.lemmas.Bool.{and_from, not-false, leb-false}
 use Rattle.model.specs.declared.job.Job.{Job}
 use Rattle.refusal.specs.Refusals.{Told, line, first_of}

@@ -1,5 +1,5 @@
 -- How far the standing jobs reach, and how much work they are.
-use Rattle.std.proofs.Common.{◌≡◌, ℕ, zero, suc, ◌+◌, ◌*◌, ◌<◌, ◌≤◌, max, true, List, [], ◌∷◌, length, mul-le-mul_left, mul-suc, arith}
+use Rattle.std.proofs.Common.{◌≡◌, ℕ, suc, ◌*◌, ◌<◌, ◌≤◌, true, List, [], ◌∷◌, length, mul-le-mul_left, mul-suc, arith}
 use Rattle.model.specs.Sums.{sum_of}
 use Rattle.model.specs.Jobs.{job_at, span, total}
 use Rattle.model.specs.declared.job.Job.{Job}

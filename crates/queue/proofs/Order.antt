@@ -1,9 +1,8 @@
 -- What a queue keeps, as one job more is put at its end and as jobs are taken from it.
-use Rattle.std.proofs.Common.{◌≡◌, ℕ, zero, suc, ◌+◌, ◌-◌, ◌<◌, ◌≤◌, min, Bool, true, false, not, ◌&&◌, ltb, leb, ◌⊎◌, List, [], ◌∷◌, ◌++◌, length, get_or, take, sym, refl, ap, ◌∙◌, subst, subst₂, inl, inr, arith}
+use Rattle.std.proofs.Common.{◌≡◌, ℕ, suc, ◌-◌, ◌<◌, ◌≤◌, true, ◌&&◌, ltb, leb, List, [], ◌∷◌, ◌++◌, length, get_or, take, sym, ap, ◌∙◌, subst, subst₂, inl, inr, arith}
 use lib.Dec.{leb-zero}
 use Rattle.std.proofs.lemmas.List.{length_push, get_or_push, get_or_append_left, length-take, get_or-take, get_or_past, get_or_read_under}
 use Rattle.std.proofs.lemmas.Bool.{and_parts, and_from, cases_lt, leb-true, ltb-true}
-use Rattle.model.specs.Sums.{all_below}
 use Rattle.model.specs.Jobs.{no_job, job_at, Ordered}
 use Rattle.model.specs.declared.job.Job.{Job}
 use Rattle.model.proofs.Sums.{all_at, all_from}

@@ -1,9 +1,9 @@
 -- The queue of standing jobs: which jobs may stand, and when one more is refused.
-use Rattle.std.specs.Prelude.{ℕ, suc, ◌-◌, Bool, true, false, not, ◌&&◌, ◌||◌, List, [], ◌∷◌, length, Option, nat_le, nat_lt}
+use Rattle.std.specs.Prelude.{suc, ◌-◌, Bool, not, ◌&&◌, List, [], ◌∷◌, length, nat_le, nat_lt}
 use Rattle.model.specs.Sums.{all_below}
 use Rattle.model.specs.Jobs.{job_at}
 use Rattle.model.specs.declared.job.Job.{Job}
-use Rattle.refusal.specs.Refusals.{Told, Line, line, first_of}
+use Rattle.refusal.specs.Refusals.{Line, line}
 
 -- an arrival below the deadline, and the deadline at most 200,000
 abbrev pub good_times : Job → Bool

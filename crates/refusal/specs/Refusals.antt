@@ -1,5 +1,5 @@
 -- Refusals as their readers see them: a number and a detail; and tables of conditions, of which the first that holds is given.
-use Rattle.std.specs.Prelude.{ℕ, Bool, true, false, cond, List, [], ◌∷◌, Some, None, Ok, Err, Option, Result}
+use Rattle.std.specs.Prelude.{ℕ, Bool, cond, List, [], ◌∷◌, Some, None, Ok, Err, Option, Result}
 use Rattle.refusal.specs.declared.term.Term.{Term}
 use Rattle.refusal.specs.declared.term.Term.TheVariants.{Constant, Linear, Cubic}
 use Rattle.refusal.specs.declared.refusal.Refusal.{Refusal}

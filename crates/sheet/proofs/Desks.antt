@@ -1,15 +1,14 @@
 -- The book of a sheet: what its answers to enter and plan say of its tables.
-use Rattle.std.proofs.Common.{◌≡◌, ℕ, suc, Bool, true, false, cond, ltb, ◌⊎◌, List, [], ◌∷◌, ◌++◌, length, drop, replicate, Some, None, Ok, Err, Option, Result, sym, refl, ap, ◌∙◌, subst, inl, inr, arith}
+use Rattle.std.proofs.Common.{◌≡◌, ℕ, false, ◌⊎◌, List, [], ◌∷◌, ◌++◌, length, drop, Some, None, Option, sym, ap, ◌∙◌, inl, inr, arith}
 use Rattle.model.specs.Charges.{cost}
 use Rattle.model.specs.Plan.{plan}
-use Rattle.model.specs.Speed.{want, wanting}
+use Rattle.model.specs.Speed.{want}
 use Rattle.model.specs.declared.job.Job.{Job}
 use Rattle.model.specs.declared.segment.Segment.{Segment}
 use Rattle.model.specs.declared.step.Step.{Step}
 use Rattle.planner.specs.Planning.{want_line, room_line, plan_lines}
-use Rattle.planner.specs.declared.plan.Planned.{Planned}
-use Rattle.refusal.proofs.Lines.{none_or_some, first_pass}
-use Rattle.refusal.specs.Refusals.{Told, Line, told_of, first_of, outcome}
+use Rattle.refusal.proofs.Lines.{none_or_some}
+use Rattle.refusal.specs.Refusals.{Told, Line, told_of, first_of}
 use Rattle.refusal.specs.declared.refusal.Refusal.{Refusal}
 use Rattle.book.proofs.Keeping.{clear_first}
 use Rattle.book.proofs.Steps.{answer_refused, answer_accepted, after_accepted}

@@ -1,29 +1,26 @@
 -- An accepted sheet is the one that is printed from the ladder and the jobs that it says.
-use Rattle.std.proofs.Common.{◌≡◌, ℕ, suc, ◌<◌, ◌≤◌, Bool, true, false, not, ◌&&◌, eqb, ltb, ◌⊎◌, List, [], ◌∷◌, ◌++◌, map, length, is_some, Some, None, Option, sym, refl, ap, ◌∙◌, subst, inl, inr, arith}
-use Rattle.std.proofs.lemmas.List.{append_assoc, append-nil, length-append, length_push, nil_from_length}
+use Rattle.std.proofs.Common.{◌≡◌, ℕ, suc, ◌<◌, ◌≤◌, true, false, not, ◌&&◌, eqb, ltb, List, [], ◌∷◌, ◌++◌, map, length, is_some, Some, None, Option, sym, refl, ap, ◌∙◌, subst, arith}
+use Rattle.std.proofs.lemmas.List.{append_assoc, append-nil, length_push, nil_from_length}
 use Rattle.std.proofs.lemmas.Bool.{true≢false, and_parts, not-false, eqb-true, not-true}
-use Rattle.model.specs.Speed.{want}
-use Rattle.model.specs.Steps.{Lawful}
 use Rattle.model.specs.declared.job.Job.{Job}
 use Rattle.model.specs.declared.step.Step.{Step}
 use Rattle.planner.specs.Planning.{want_line, room_line}
 use Rattle.processor.specs.Tried.{lawful_from}
 use Rattle.queue.proofs.Admitted.{Admitted, admitted, standing_with}
 use Rattle.queue.proofs.Order.{standing_none}
-use Rattle.queue.specs.Queues.{push_lines, standing}
-use Rattle.refusal.proofs.Lines.{none_or_some}
-use Rattle.refusal.specs.Refusals.{Told, Line, line, first_of}
+use Rattle.queue.specs.Queues.{standing}
+use Rattle.refusal.specs.Refusals.{Told, line, first_of}
 use Rattle.book.proofs.Keeping.{clear_first, clear_front}
 use Rattle.book.specs.Calls as calls
 use Rattle.book.specs.Calls.Call.{enters, plans}
-use Rattle.grammar.proofs.Parting.{glued, parted, pieces_some, pieces_glued}
+use Rattle.grammar.proofs.Parting.{glued, pieces_some, pieces_glued}
 use Rattle.grammar.proofs.Saying.{row_exact}
 use Rattle.grammar.specs.Pieces.{lines, line_feed}
 use Rattle.grammar.specs.Rows.{row_of, row_text}
 use Rattle.grammar.specs.declared.row.Row.{Row}
 use Rattle.grammar.specs.declared.row.Row.TheVariants.{Rung, Task, Draw}
 use Rattle.sheet.specs.Laws.{rows_text, sheet_text, Plannable}
-use Rattle.sheet.specs.Sheets.{Sheet, blank, with_row, with_said, placed, desk, room, ladder_lines, beneath, row_table, said_table, line_table, lines_table, end_table, sheet_table, said_by, said}
+use Rattle.sheet.specs.Sheets.{Sheet, blank, with_row, with_said, placed, desk, room, ladder_lines, beneath, row_table, said_table, line_table, lines_table, sheet_table, said_by, said}
 use Rattle.sheet.proofs.Lines.{nothing_said}
 
 -- a line that is not refused says a row that is in its place and that nothing refuses

@@ -1,19 +1,17 @@
 -- What is written of a page on which the plan is drawn.
-use Rattle.std.proofs.Common.{◌≡◌, ℕ, ◌-◌, ◌<◌, ◌≤◌, true, false, ltb, List, ◌∷◌, ◌++◌, length, take, drop, is_some, Some, None, Ok, Err, Option, Result, sym, refl, ap, ◌∙◌, subst, arith}
+use Rattle.std.proofs.Common.{◌≡◌, ℕ, ◌-◌, ◌<◌, ◌≤◌, true, ltb, List, ◌∷◌, length, take, is_some, Some, None, Ok, Err, Option, sym, refl, ap, ◌∙◌, subst, arith}
 use Rattle.frame.proofs.Laid.{laid_first}
 use Rattle.frame.specs.Laid.{laid}
 use Rattle.std.proofs.lemmas.Bool.{lt-ltb, le-ltb}
-use Rattle.model.specs.Charges.{cost}
 use Rattle.model.specs.Plan.{plan}
 use Rattle.model.specs.Steps.{Lawful}
 use Rattle.model.specs.declared.segment.Segment.{Segment}
-use Rattle.model.specs.declared.step.Step.{Step}
 use Rattle.print.specs.Texts.{text_of, plan_text}
 use Rattle.processor.specs.Tried.{lawful_from}
 use Rattle.refusal.proofs.Lines.{first_pass, first_hit}
 use Rattle.refusal.specs.Refusals.{Told, told, line, first_of}
 use Rattle.grammar.specs.Pieces.{lines}
-use Rattle.sheet.specs.Answers.{drawn_text, length_unless, filled_unless, sheet_answer, sheet_filled}
+use Rattle.sheet.specs.Answers.{drawn_text, length_unless, filled_unless}
 use Rattle.sheet.specs.Pages.{Good, sheet_of, is_made, is_drawn}
 use Rattle.sheet.specs.Sheets.{Sheet, blank, ladder_lines, lines_table, sheet_table, said}
 use Rattle.sheet.specs.declared.page.Page.{Page}

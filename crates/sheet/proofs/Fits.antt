@@ -1,11 +1,11 @@
 -- The text of a plan has room in 16,384 bytes: at most 1,024 segments, each of a step of two digits and ticks of ten.
-use Rattle.std.proofs.Common.{◌≡◌, ℕ, suc, ◌+◌, ◌-◌, ◌*◌, ◌^◌, ◌<◌, ◌≤◌, Bool, true, false, cond, eqb, List, [], ◌∷◌, ◌++◌, length, decimal, sym, refl, ap, ◌∙◌, mul-le-mul_right, mul-add, arith, lit<}
+use Rattle.std.proofs.Common.{◌≡◌, ℕ, ◌+◌, ◌-◌, ◌*◌, ◌<◌, ◌≤◌, Bool, true, false, cond, eqb, List, [], ◌∷◌, ◌++◌, length, refl, mul-le-mul_right, mul-add, arith, lit<}
 use Rattle.std.proofs.lemmas.Fmt.{length-decimal-le}
 use Rattle.std.proofs.lemmas.List.{length-append}
 use Rattle.model.specs.Charges.{cost}
-use Rattle.model.specs.Jobs.{cuts, span}
+use Rattle.model.specs.Jobs.{cuts}
 use Rattle.model.specs.Path.{path, piece_at, Piece}
-use Rattle.model.specs.Plan.{slow_step, fast_ticks, ticks_between, segment, stretch, stretches, attach, joined, plan, ticks_of, energy}
+use Rattle.model.specs.Plan.{segment, stretch, stretches, attach, joined, plan, ticks_of, energy}
 use Rattle.model.specs.Speed.{want}
 use Rattle.model.specs.Steps.{Lawful, unit}
 use Rattle.model.specs.Sums.{sum_of}

@@ -1,24 +1,22 @@
 -- What is kept of a page as rows are taken into it.
-use Rattle.std.proofs.Common.{◌≡◌, ℕ, ◌+◌, ◌<◌, ◌≤◌, Bool, true, false, List, [], ◌∷◌, ◌++◌, length, take, drop, set, Some, None, Option, sym, refl, ap, ◌∙◌, subst, arith}
+use Rattle.std.proofs.Common.{◌≡◌, ℕ, ◌+◌, ◌<◌, ◌≤◌, Bool, true, false, List, [], ◌∷◌, ◌++◌, length, take, drop, set, None, sym, ap, ◌∙◌, subst, arith}
 use Rattle.std.proofs.lemmas.List.{length-set, length_push, take_at}
 use Rattle.std.proofs.lemmas.Bool.{false≢true, true≢false}
-use Rattle.model.specs.Charges.{cost}
 use Rattle.model.specs.Plan.{plan}
-use Rattle.model.specs.Speed.{want}
 use Rattle.model.specs.declared.job.Job.{Job}
 use Rattle.model.specs.declared.segment.Segment.{Segment}
 use Rattle.model.specs.declared.step.Step.{Step as Level}
 use Rattle.planner.specs.declared.plan.Planned.{Planned}
 use Rattle.processor.specs.Meanings.{ladder_steps}
-use Rattle.processor.specs.Rules.{listed, ladder_refusal, step_lines}
+use Rattle.processor.specs.Rules.{ladder_refusal, step_lines}
 use Rattle.processor.specs.declared.ladder.Ladder.{Ladder}
 use Rattle.book.specs.Books.{state}
 use Rattle.book.specs.Calls.{State}
 use Rattle.book.specs.declared.book.Book.{Book}
-use Rattle.refusal.specs.Refusals.{Told, first_of}
-use Rattle.grammar.specs.declared.row.Row.TheVariants.{Rung, Task, Draw}
+use Rattle.refusal.specs.Refusals.{first_of}
+use Rattle.grammar.specs.declared.row.Row.TheVariants.{Rung, Task}
 use Rattle.sheet.specs.Pages.{Good, sheet_of, is_made, is_drawn}
-use Rattle.sheet.specs.Sheets.{Sheet, desk, ladder_lines, with_row}
+use Rattle.sheet.specs.Sheets.{desk, ladder_lines, with_row}
 use Rattle.sheet.specs.declared.page.Page.{Page}
 use Rattle.sheet.specs.declared.page.Stage.{Stage}
 use Rattle.sheet.specs.declared.page.Stage.TheVariants.{Rungs, Tasks, Drawn}

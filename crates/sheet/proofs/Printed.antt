@@ -1,14 +1,14 @@
 -- What the plan program prints: a plan that was drawn, or the refused line.
-use Rattle.std.proofs.Common.{◌≡◌, ℕ, ◌+◌, ◌<◌, ◌≤◌, Bool, true, false, cond, ltb, List, [], ◌∷◌, ◌++◌, length, drop, is_ok, IfOk, Some, None, Ok, Err, Option, Result, sym, refl, ap, ◌∙◌, subst, arith}
+use Rattle.std.proofs.Common.{◌≡◌, ℕ, ◌<◌, Bool, true, false, cond, ltb, List, [], ◌∷◌, ◌++◌, length, drop, is_ok, IfOk, Some, None, Ok, Err, Option, Result, sym, refl, ap, ◌∙◌, subst, arith}
 use Rattle.std.proofs.lemmas.List.{length-append, length-drop}
-use Rattle.std.proofs.lemmas.Bool.{cond-true, cond-false, ltb-true, ltb-false}
+use Rattle.std.proofs.lemmas.Bool.{ltb-true, ltb-false}
 use Rattle.print.proofs.Lengths.{energy_length, refused_length}
 use Rattle.print.specs.Texts.{segments_text, energy_text, plan_text, refused_text}
 use Rattle.model.specs.Charges.{cost}
 use Rattle.model.specs.Plan.{plan}
 use Rattle.refusal.specs.Refusals.{Told, told, told_of, line, first_of, outcome}
 use Rattle.refusal.specs.declared.refusal.Refusal.{Refusal}
-use Rattle.sheet.specs.Answers.{drawn_text, length_unless, filled_unless, sheet_answer, sheet_filled, text_or, printed, fitting, Prints}
+use Rattle.sheet.specs.Answers.{drawn_text, length_unless, filled_unless, sheet_answer, text_or, printed, fitting, Prints}
 use Rattle.sheet.specs.Sheets.{sheet_table, said}
 
 -- a text written where it has room

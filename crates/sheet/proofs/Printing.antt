@@ -1,12 +1,12 @@
 -- A sheet printed from a ladder and jobs is read as them.
-use Rattle.std.proofs.Common.{◌≡◌, ℕ, zero, suc, ◌+◌, ◌-◌, ◌*◌, ◌<◌, ◌≤◌, Bool, true, false, not, ◌&&◌, eqb, ltb, leb, ◌⊎◌, List, [], ◌∷◌, ◌++◌, map, length, get_or, take, is_some, Some, None, decimal, Option, sym, refl, ap, ◌∙◌, subst, inl, inr, arith, lit<}
+use Rattle.std.proofs.Common.{◌≡◌, ℕ, suc, ◌+◌, ◌-◌, ◌*◌, ◌<◌, ◌≤◌, true, false, not, ◌&&◌, leb, List, [], ◌∷◌, ◌++◌, map, length, is_some, Some, None, decimal, Option, sym, refl, ap, ◌∙◌, subst, inl, inr, arith, lit<}
 use Rattle.std.proofs.lemmas.Fmt.{length-decimal-le}
-use Rattle.std.proofs.lemmas.List.{append_assoc, append-nil, length-append, length_push, length-map, take_at, take-append-le, get_or_append_left, get_or_push}
-use Rattle.std.proofs.lemmas.Bool.{lt-ltb, le-ltb, eq-eqb, lt-leb, and_from, and_parts, not_from_true, not_from_false, cases_eq}
+use Rattle.std.proofs.lemmas.List.{append_assoc, append-nil, length-append, length_push, length-map, take_at, get_or_append_left, get_or_push}
+use Rattle.std.proofs.lemmas.Bool.{lt-ltb, le-ltb, lt-leb, and_from, and_parts, not_from_true, cases_eq}
 use Rattle.model.specs.Jobs.{no_job, job_at}
 use Rattle.model.specs.Plan.{plan}
-use Rattle.model.specs.Speed.{want, wanting}
-use Rattle.model.specs.Steps.{Lawful, no_step, speed_at, power_at}
+use Rattle.model.specs.Speed.{want}
+use Rattle.model.specs.Steps.{speed_at, power_at}
 use Rattle.model.specs.declared.job.Job.{Job}
 use Rattle.model.specs.declared.step.Step.{Step}
 use Rattle.planner.specs.Planning.{want_line, room_line}
@@ -14,20 +14,19 @@ use Rattle.processor.specs.Tried.{passes_from}
 use Rattle.queue.proofs.Order.{standing_fit, standing_follows, standing_take, limits, follows_none}
 use Rattle.queue.specs.Queues.{good_times, good_work, good_account, follows, last_of, fit, push_lines, standing}
 use Rattle.refusal.proofs.Lines.{first_pass}
-use Rattle.refusal.specs.Refusals.{Told, Line, line, first_of}
+use Rattle.refusal.specs.Refusals.{Told, line, first_of}
 use Rattle.book.proofs.Promises.{pass_longer}
 use Rattle.book.specs.Calls as calls
 use Rattle.book.specs.Calls.Call.{enters, plans}
-use Rattle.text.specs.Numerals.{ten_digits}
 use Rattle.grammar.proofs.Numbering.{decimal_free}
 use Rattle.grammar.proofs.Parting.{Free, pieces_front}
 use Rattle.grammar.proofs.Saying.{row_back}
-use Rattle.grammar.specs.Pieces.{lines, line_feed, space, pieces}
-use Rattle.grammar.specs.Rows.{row_of, row_text, letter_of, numbers_of, fields, Small}
+use Rattle.grammar.specs.Pieces.{lines, line_feed, pieces}
+use Rattle.grammar.specs.Rows.{row_text, numbers_of, fields, Small}
 use Rattle.grammar.specs.declared.row.Row.{Row}
 use Rattle.grammar.specs.declared.row.Row.TheVariants.{Rung, Task, Draw}
 use Rattle.sheet.specs.Laws.{rows_text, sheet_text, Plannable}
-use Rattle.sheet.specs.Sheets.{Sheet, blank, with_row, with_said, placed, desk, room, ladder_lines, beneath, row_table, said_table, line_table, lines_table, end_table, sheet_table, said_by, said}
+use Rattle.sheet.specs.Sheets.{Sheet, blank, with_row, with_said, placed, desk, room, ladder_lines, beneath, row_table, line_table, lines_table, sheet_table, said_by, said}
 use Rattle.sheet.proofs.Filled.{by_lines}
 use Rattle.sheet.proofs.Fits.{plan_length}
 use Rattle.sheet.proofs.Lines.{lines_on, line_said, nothing_said, said_on}

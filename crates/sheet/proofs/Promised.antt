@@ -1,10 +1,10 @@
 -- The laws of sheets as they hold of an answer and of the buffer after it.
-use Rattle.std.proofs.Common.{◌≡◌, ℕ, ◌≤◌, true, ◌⊎◌, List, ◌++◌, length, drop, Some, None, Ok, Err, Option, Result, sym, refl, ap, ◌∙◌, subst, inl, inr, arith}
+use Rattle.std.proofs.Common.{◌≡◌, ℕ, true, ◌⊎◌, List, length, Some, None, Ok, Err, Option, Result, ap, ◌∙◌, inl, inr, arith}
 use Rattle.print.specs.Texts.{plan_text}
 use Rattle.refusal.proofs.Lines.{none_or_some}
 use Rattle.refusal.specs.Refusals.{Told, first_of}
-use Rattle.sheet.specs.Answers.{drawn_text, fault_told, fault_reply, length_unless, filled_unless, sheet_answer, sheet_filled}
-use Rattle.sheet.specs.Laws.{ReadsBack, IsPrinted, sheet_text}
+use Rattle.sheet.specs.Answers.{drawn_text, fault_reply, length_unless, filled_unless, sheet_answer, sheet_filled}
+use Rattle.sheet.specs.Laws.{ReadsBack, IsPrinted}
 use Rattle.sheet.specs.Sheets.{Sheet, sheet_table, said}
 use Rattle.sheet.specs.declared.fault.Fault.{Fault}
 use Rattle.sheet.proofs.Exactness.{accepted_exact}

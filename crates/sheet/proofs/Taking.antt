@@ -1,5 +1,5 @@
 -- A row taken into a page: what is answered, and what the page is then.
-use Rattle.std.proofs.Common.{◌≡◌, ℕ, ◌<◌, ◌≤◌, Bool, true, false, not, ◌&&◌, eqb, ltb, ◌⊎◌, List, [], ◌∷◌, ◌++◌, length, drop, is_some, is_ok, IfOk, Some, None, Ok, Err, Option, Result, sym, refl, ap, ◌∙◌, subst, inl, inr, arith}
+use Rattle.std.proofs.Common.{◌≡◌, ℕ, ◌<◌, ◌≤◌, true, false, not, eqb, ◌⊎◌, List, [], ◌∷◌, ◌++◌, length, drop, is_some, is_ok, IfOk, Some, None, Ok, Err, Option, Result, sym, refl, ap, ◌∙◌, subst, inl, inr, arith}
 use Rattle.std.proofs.lemmas.List.{length-append}
 use Rattle.std.proofs.lemmas.Bool.{true≢false, le-ltb, lt-ltb, ne_eqb, eq-eqb, and_from, and_left, and_right, not_from_true, not_from_false}
 use Rattle.model.specs.Plan.{plan}
@@ -12,7 +12,7 @@ use Rattle.refusal.proofs.Lines.{first_pass, first_hit}
 use Rattle.refusal.specs.Refusals.{Told, told, told_of, Line, line, first_of, outcome}
 use Rattle.refusal.specs.declared.refusal.Refusal.{Refusal}
 use Rattle.book.specs.Books.{state}
-use Rattle.book.specs.Calls.{State, Answer, answer, after, lines}
+use Rattle.book.specs.Calls.{State, answer, after, lines}
 use Rattle.book.specs.Calls.Answer.{refused, done, planned}
 use Rattle.book.specs.Calls.Call.{enters, plans}
 use Rattle.book.specs.declared.book.Book.{Book}

@@ -2,7 +2,7 @@
 use Rattle.std.specs.Prelude.{◌≡◌, ℕ, ◌<◌, ◌≤◌, List, ◌++◌, length, drop, Some, None, Ok, Err, Option, Result}
 use Rattle.refusal.specs.Refusals.{Told, told, told_of, first_of}
 use Rattle.refusal.specs.declared.refusal.Refusal.{Refusal}
-use Rattle.sheet.specs.Sheets.{Sheet, sheet_table, said}
+use Rattle.sheet.specs.Sheets.{sheet_table, said}
 use Rattle.print.specs.Texts.{plan_text, refused_text}
 use Rattle.sheet.specs.declared.fault.Fault.{Fault}
 use Rattle.sheet.specs.declared.fault.Fault.TheVariants.{Bytes, Room, Long, Malformed, Refused}

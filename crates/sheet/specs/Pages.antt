@@ -1,5 +1,5 @@
 -- What a page means, and what holds of it while a sheet is read.
-use Rattle.std.specs.Prelude.{◌≡◌, ℕ, ◌<◌, ◌≤◌, Bool, true, false, List, [], length, take, None}
+use Rattle.std.specs.Prelude.{◌≡◌, ◌<◌, ◌≤◌, Bool, true, false, [], length, take, None}
 use Rattle.model.specs.Charges.{cost}
 use Rattle.model.specs.Plan.{plan}
 use Rattle.model.specs.Speed.{want}

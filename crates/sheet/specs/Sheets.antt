@@ -1,5 +1,5 @@
 -- What a sheet says line by line, and the table of its refusals.
-use Rattle.std.specs.Prelude.{ℕ, suc, Bool, true, false, cond, not, ◌&&◌, List, [], ◌∷◌, ◌++◌, length, replicate, is_some, Some, None, Option, ◌==◌, nat_lt}
+use Rattle.std.specs.Prelude.{ℕ, suc, Bool, true, false, not, ◌&&◌, List, [], ◌∷◌, ◌++◌, length, replicate, is_some, Some, None, Option, ◌==◌, nat_lt}
 use Rattle.model.specs.Plan.{segment}
 use Rattle.model.specs.declared.job.Job.{Job}
 use Rattle.model.specs.declared.segment.Segment.{Segment}
@@ -12,7 +12,7 @@ use Rattle.grammar.specs.Pieces as grammar
 use Rattle.grammar.specs.Rows.{row_of}
 use Rattle.grammar.specs.declared.row.Row.{Row}
 use Rattle.grammar.specs.declared.row.Row.TheVariants.{Rung, Task, Draw}
-use Rattle.refusal.specs.Refusals.{Told, Line, line, first_of}
+use Rattle.refusal.specs.Refusals.{Line, line, first_of}
 
 -- what a sheet has said so far: the steps of its ladder, the jobs of its book, and whether the plan is drawn
 pub record Sheet : Type 0 where

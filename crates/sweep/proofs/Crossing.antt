@@ -1,5 +1,5 @@
 -- One cut, and the sweep along all cuts.
-use Rattle.std.proofs.Common.{◌≡◌, ℕ, suc, ◌<◌, ◌≤◌, Bool, true, false, cond, List, [], ◌∷◌, ◌++◌, length, get_or, drop, sym, refl, ap, ◌∙◌, subst, le_refl, le_of_lt, arith}
+use Rattle.std.proofs.Common.{◌≡◌, ℕ, ◌<◌, ◌≤◌, Bool, true, false, List, [], ◌∷◌, ◌++◌, length, get_or, drop, sym, refl, ap, ◌∙◌, le_refl, le_of_lt, arith}
 use Rattle.std.proofs.lemmas.List.{append_assoc}
 use Rattle.model.specs.Path.{start}
 use Rattle.model.specs.declared.cut.Cut.{Cut}

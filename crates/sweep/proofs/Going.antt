@@ -1,11 +1,11 @@
 -- The loop of the sweep: what is put out with what is still to be found is all, and both chains are bent up to the last cut.
-use Rattle.std.proofs.Common.{◌≡◌, ℕ, suc, ◌+◌, ◌-◌, ◌<◌, ◌≤◌, Bool, true, false, List, [], ◌∷◌, ◌++◌, length, get_or, drop, sym, refl, ap, ◌∙◌, subst, subst₂, add-one, arith}
+use Rattle.std.proofs.Common.{◌≡◌, ℕ, suc, ◌+◌, ◌<◌, ◌≤◌, true, false, List, [], ◌++◌, length, get_or, drop, sym, ap, ◌∙◌, subst, subst₂, arith}
 use Rattle.std.proofs.lemmas.List.{drop_more}
 use Rattle.model.specs.Path.{start}
 use Rattle.model.specs.declared.cut.Cut.{Cut}
 use Rattle.model.specs.declared.point.Point.{Point}
 use Rattle.theory.proofs.Tight.{Bent}
-use Rattle.sweep.specs.Swept.{no_cut, stake_at, cross, swept_from, swept, Rising}
+use Rattle.sweep.specs.Swept.{no_cut, cross, swept_from, swept, Rising}
 use Rattle.sweep.proofs.Crossing.{swept_start, swept_more, cross_bent}
 
 -- before the cut at place k, b being the one before it

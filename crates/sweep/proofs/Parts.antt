@@ -1,7 +1,7 @@
 -- Parts of an array of points: one point more behind a part, the first point of a part, a part written through a loan.
-use Rattle.std.proofs.Common.{◌≡◌, ℕ, zero, suc, ◌+◌, ◌-◌, ◌<◌, ◌≤◌, Bool, eqb, List, [], ◌∷◌, ◌++◌, length, get_or, take, drop, set, sym, refl, ap, ◌∙◌, subst, arith}
+use Rattle.std.proofs.Common.{◌≡◌, ℕ, suc, ◌+◌, ◌-◌, ◌<◌, ◌≤◌, eqb, List, [], ◌∷◌, ◌++◌, length, get_or, take, drop, set, sym, ap, ◌∙◌, arith}
 use borrow.Rule.Slice.PartMut.{mid_of, post_of, put_mid}
-use Rattle.std.proofs.lemmas.List.{take_more_set, take-take, length-take-le, length-drop, drop-set-add, drop_more, drop_at, take-append-le, length-take}
+use Rattle.std.proofs.lemmas.List.{take_more_set, take-take, length-take-le, length-drop, drop-set-add, drop_more, drop_at, take-append-le}
 use Rattle.model.specs.Path.{start}
 use Rattle.model.specs.declared.point.Point.{Point}
 use Rattle.sweep.specs.Views.{part}

@@ -1,18 +1,17 @@
 -- The sweep over the surveyed cuts of jobs finds the corners of the jobs' own sweep.
-use Rattle.std.proofs.Common.{◌≡◌, ℕ, zero, suc, ◌<◌, ◌≤◌, max, Bool, true, false, cond, List, [], ◌∷◌, ◌++◌, map, length, get_or, drop, sym, refl, ap, ◌∙◌, subst, arith}
+use Rattle.std.proofs.Common.{◌≡◌, ℕ, zero, suc, true, false, List, [], ◌∷◌, ◌++◌, map, drop, sym, refl, ap, ◌∙◌, subst, arith}
 use Rattle.std.proofs.lemmas.List.{append_assoc}
 use Rattle.model.specs.Jobs.{Ordered, cuts, span}
 use Rattle.model.specs.Path.{start, finish}
-use Rattle.model.specs.declared.cut.Cut.{Cut}
 use Rattle.model.specs.declared.job.Job.{Job}
 use Rattle.model.specs.declared.point.Point.{Point}
-use Rattle.theory.specs.Sweep.{inner, wall, mark, stake, Funnel, take_in, reach, sweep_from, sweep}
+use Rattle.theory.specs.Sweep.{wall, stake, Funnel, reach, sweep_from, sweep}
 use Rattle.theory.specs.Survey.{cut_of, survey}
 use Rattle.theory.proofs.Cuts.{cuts_rooted, Rises}
 use Rattle.theory.proofs.Levels.{Timely, timely_from}
 use Rattle.theory.proofs.Marks.{cuts_times}
 use Rattle.theory.proofs.Swept.{Times, finish_is}
-use Rattle.sweep.specs.Swept.{no_cut, stake_at, reached, reach_at, cross, swept_from, swept, Rising}
+use Rattle.sweep.specs.Swept.{stake_at, reached, reach_at, cross, swept_from, swept, Rising}
 
 -- a wall at a surveyed cut
 reach_floor : (jobs : List Job) (t : ℕ) (p : Point) (own other : List Point) → reach_at false (cut_of jobs t) p own other ≡ reach false jobs t p own other

@@ -1,11 +1,10 @@
 -- A point that comes in, by whether it is then alone in its chain.
-use Rattle.std.proofs.Common.{◌≡◌, ℕ, ◌<◌, ◌≤◌, Bool, true, false, cond, List, [], ◌∷◌, ◌++◌, sym, refl, ap, ◌∙◌, arith}
-use Rattle.std.proofs.lemmas.List.{append-nil}
+use Rattle.std.proofs.Common.{◌≡◌, ℕ, ◌<◌, ◌≤◌, Bool, true, false, cond, List, [], ◌∷◌, sym, refl, ap, ◌∙◌, arith}
 use Rattle.std.proofs.lemmas.Bool.{cond-true, cond-false, true≢false}
 use Rattle.model.specs.declared.point.Point.{Point}
 use Rattle.sweep.specs.Swept.{reached}
 use Rattle.theory.proofs.Tight.{Bent, bent_on, take_in_bent}
-use Rattle.theory.specs.Sweep.{inner, inward, tighten, pass, Funnel, alone, take_in}
+use Rattle.theory.specs.Sweep.{inner, inward, tighten, pass, alone, take_in}
 
 -- what is alone is the new point
 pub tighten_alone : (in-of : ℕ → ℕ → Bool) (p : Point) (own : List Point) (x : Point) → alone (tighten in-of p own x) ≡ true → tighten in-of p own x ≡ x ∷ []

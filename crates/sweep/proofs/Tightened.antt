@@ -4,7 +4,7 @@ use Rattle.std.proofs.lemmas.List.{take_more_set, take-take, length-take-le, get
 use Rattle.model.specs.Path.{start}
 use Rattle.model.specs.declared.point.Point.{Point}
 use Rattle.theory.specs.Sweep.{inner, inward, tighten}
-use Rattle.theory.proofs.Tight.{Bent, tighten_take}
+use Rattle.theory.proofs.Tight.{tighten_take}
 use Rattle.sweep.specs.Ready.{Ready}
 
 front : (p : Point) (chain : List Point) (len i : ℕ) → i ≤ len → get_or (p ∷ chain) i start ≡ get_or (p ∷ take len chain) i start

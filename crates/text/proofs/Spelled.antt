@@ -1,9 +1,9 @@
 -- Writing a number from its last digit on: what is written so far, and what is left to write before it.
-use Rattle.std.proofs.Common.{◌≡◌, ℕ, suc, ◌+◌, ◌-◌, ◌*◌, ◌/◌, ◌%◌, ◌^◌, ◌<◌, ◌≤◌, List, [], ◌∷◌, ◌++◌, length, take, drop, set, decimal, sym, refl, ap, ◌∙◌, add-one, arith, lit<}
+use Rattle.std.proofs.Common.{◌≡◌, ℕ, suc, ◌+◌, ◌-◌, ◌/◌, ◌%◌, ◌^◌, ◌<◌, ◌≤◌, List, [], ◌∷◌, ◌++◌, length, take, drop, set, decimal, sym, refl, ap, ◌∙◌, arith}
 use Rattle.frame.proofs.Laid.{laid_none, laid_length}
 use Rattle.frame.specs.Laid.{laid}
 use Rattle.std.proofs.lemmas.Fmt.{decimal_digit, decimal_step, decimal_nonempty}
-use Rattle.std.proofs.lemmas.List.{append_assoc, append-nil, length-append, length_push, length-take-le, set-append_left, set_split, take-take, drop_all, drop-take, take_more, take_all}
+use Rattle.std.proofs.lemmas.List.{append_assoc, append-nil, length-append, length_push, length-take-le, set-append_left, set_split, take-take, drop_all}
 
 -- a byte before bytes that are laid
 pub laid_before : (p b : ℕ) (bytes frame : List ℕ) → p < length frame → set (laid (p + 1) bytes frame) p b ≡ laid p (b ∷ bytes) frame

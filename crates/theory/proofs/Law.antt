@@ -1,9 +1,9 @@
 -- The law of a path as facts, and back as the test of `model`.
-use Rattle.std.proofs.Common.{◌≡◌, ℕ, zero, suc, ◌+◌, ◌-◌, ◌*◌, ◌<◌, ◌≤◌, Bool, true, false, cond, not, ◌&&◌, ◌||◌, eqb, ltb, leb, ◌⊎◌, List, [], ◌∷◌, ◌++◌, sym, refl, ap, ◌∙◌, subst, inl, inr, arith}
+use Rattle.std.proofs.Common.{◌≡◌, ℕ, suc, ◌+◌, ◌-◌, ◌*◌, ◌<◌, ◌≤◌, Bool, true, false, not, ◌||◌, List, [], ◌∷◌, refl, subst, arith}
 use Rattle.std.proofs.lemmas.Bool.{and_parts, and_from, or_cases, or_left, or_right, or_parts, cases_Bool, both_ways, not_from_true, not_from_false, not-true, ltb-true, lt-ltb, ltb-false, le-ltb, leb-true, le-leb, eqb-true, eq-eqb}
 use Rattle.model.specs.Sums.{all_below}
 use Rattle.model.specs.Jobs.{total, span, ceiling, floor, arrives, due}
-use Rattle.model.specs.Path.{start, run, rise, height_on, inside, straight, flatter, turns, keeps_from, keeps}
+use Rattle.model.specs.Path.{run, rise, height_on, inside, straight, flatter, turns, keeps_from}
 use Rattle.model.specs.declared.job.Job.{Job}
 use Rattle.model.specs.declared.point.Point.{Point}
 use Rattle.model.proofs.Sums.{all_at, all_from}

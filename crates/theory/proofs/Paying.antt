@@ -1,5 +1,5 @@
 -- The charges add up: each tick is paid whole by one account, the house or the owner of its first grain, so over all accounts the charges are the energy.
-use Rattle.std.proofs.Common.{◌≡◌, ℕ, zero, suc, ◌+◌, ◌-◌, ◌*◌, ◌<◌, ◌≤◌, cond, eqb, ltb, List, [], ◌∷◌, length, sym, refl, ap, ◌∙◌, inl, inr, mul-zero, mul-suc, arith}
+use Rattle.std.proofs.Common.{◌≡◌, ℕ, zero, suc, ◌+◌, ◌-◌, ◌*◌, ◌<◌, ◌≤◌, cond, eqb, ltb, List, [], ◌∷◌, length, sym, refl, ◌∙◌, inl, inr, mul-zero, mul-suc, arith}
 use Rattle.std.proofs.lemmas.Bool.{cond-true, cond-false, cond_both, cases_lt, eq-eqb, ne_eqb}
 use Rattle.model.specs.Sums.{sum_to, sum_of}
 use Rattle.model.specs.Steps.{unit, speed_at, power_at}

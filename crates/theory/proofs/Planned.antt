@@ -1,24 +1,24 @@
 -- The theorems about the plan of a list of jobs: its path may be drawn, so what holds of every drawn plan holds of it.
-use Rattle.std.proofs.Common.{◌≡◌, ℕ, Bool, true, false, eqb, ◌⊎◌, List, [], ◌∷◌, sym, refl, ap, subst, inl, inr}
+use Rattle.std.proofs.Common.{◌≡◌, ℕ, true, false, eqb, List, [], ◌∷◌, sym, subst, inl, inr}
 use Rattle.std.proofs.lemmas.Bool.{or_cases, eqb-true, false≢true}
 use Rattle.model.specs.Sums.{some_of}
 use Rattle.model.specs.Steps.{Lawful}
 use Rattle.model.specs.Jobs.{Ordered, cuts}
 use Rattle.model.specs.Path.{keeps, path, start}
 use Rattle.model.specs.Plan.{plan, energy}
-use Rattle.model.specs.Ways.{Serves, Least, Runnable, step_of, share}
+use Rattle.model.specs.Ways.{Serves, Least, step_of, share}
 use Rattle.model.specs.Speed.{want}
 use Rattle.model.specs.Charges.{cost}
 use Rattle.model.specs.declared.job.Job.{Job}
 use Rattle.model.specs.declared.point.Point.{Point}
 use Rattle.model.specs.declared.segment.Segment.{Segment}
 use Rattle.model.specs.declared.step.Step.{Step}
-use Rattle.theory.specs.Theorems.{PathExists, PathIsOne, PlanServes, PlanIsLeast, EitherWay, WantIsNoWay}
-use Rattle.theory.proofs.Law.{Kept, kept_from_keeps}
+use Rattle.theory.specs.Theorems.{PathExists, PathIsOne, PlanServes, PlanIsLeast, WantIsNoWay}
+use Rattle.theory.proofs.Law.{kept_from_keeps}
 use Rattle.theory.proofs.Cuts.{Among}
 use Rattle.theory.proofs.Unique.{same_heights}
 use Rattle.theory.proofs.Exists.{path_keeps, CornersAtCuts, path_corners}
-use Rattle.theory.proofs.Drawn.{drawn, plan_drawn, AtCuts, Drawable}
+use Rattle.theory.proofs.Drawn.{plan_drawn, AtCuts, Drawable}
 use Rattle.theory.proofs.Serving.{plan_least}
 use Rattle.theory.proofs.Serving as serving
 use Rattle.theory.proofs.Wanting.{gentle_path}

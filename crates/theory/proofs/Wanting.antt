@@ -2,7 +2,7 @@
 -- From a time x to a time y the floor at y is at most top speed × (y − x) above the ceiling at x, for what is above it is the work of a run of jobs between the two.
 -- A piece that is too steep begins on the ceiling, at the start or where the slope rises; from there on the path stays above the line of top speed
 -- until the slope falls or the path ends, and then it is on the floor.
-use Rattle.std.proofs.Common.{◌≡◌, ℕ, zero, suc, ◌+◌, ◌-◌, ◌*◌, ◌<◌, ◌≤◌, Bool, true, false, cond, ltb, leb, ◌⊎◌, List, [], ◌∷◌, length, sym, refl, ap, ◌∙◌, inl, inr, mul-le-mul_right, lt_of_mul-lt-mul_right, mul-le-mul_left, mul-lt-mul_of_pos_right, mul-zero, mul-add, mul_right_comm, arith}
+use Rattle.std.proofs.Common.{◌≡◌, ℕ, zero, suc, ◌+◌, ◌-◌, ◌*◌, ◌<◌, ◌≤◌, true, false, cond, ltb, leb, ◌⊎◌, List, [], ◌∷◌, length, sym, refl, ap, ◌∙◌, inl, inr, mul-le-mul_right, lt_of_mul-lt-mul_right, mul-le-mul_left, mul-lt-mul_of_pos_right, mul-zero, mul-add, mul_right_comm, arith}
 use Rattle.std.proofs.lemmas.Bool.{cond-true, cond-false, cond_both, cases_lt, ltb-true, ltb-false, lt-ltb, le-ltb, lt-leb, le-leb}
 use Rattle.model.specs.Sums.{sum_to, sum_of}
 use Rattle.model.specs.Steps.{top_speed, Lawful}
@@ -14,7 +14,7 @@ use Rattle.model.specs.declared.point.Point.{Point}
 use Rattle.model.specs.declared.step.Step.{Step}
 use Rattle.model.proofs.First.{first_le, first_none, first_found}
 use Rattle.model.proofs.Sums.{sum_to_mono, sum_to_split, sum_to_longer, any_at, any_none}
-use Rattle.theory.proofs.Law.{Straight, Turns, Kept}
+use Rattle.theory.proofs.Law.{Straight, Kept}
 use Rattle.theory.proofs.Walls.{ceiling_places, floor_places}
 use Rattle.theory.proofs.Drawn.{Gentle, kept_before_end}
 

@@ -1,4 +1,3 @@
-use Rattle.std.proofs.Common.{◌^◌, ◌<◌, ◌≤◌, length}
 use Rattle.grammar.proofs.Fielded.{Fielded}
 use Rattle.grammar.proofs.rows.read_fields.Given as goal
 

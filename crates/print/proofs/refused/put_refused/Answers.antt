@@ -1,9 +1,9 @@
-use Rattle.std.proofs.Common.{◌≡◌, ℕ, ◌+◌, ◌<◌, ◌≤◌, ltb, List, [], ◌∷◌, ◌++◌, length, drop, Some, None, codes, decimal, Option, sym, refl, ap, ◌∙◌, append_assoc, arith, lit<}
+use Rattle.std.proofs.Common.{◌≡◌, ℕ, ◌+◌, ◌<◌, ◌≤◌, ltb, [], ◌∷◌, length, Some, None, codes, decimal, sym, refl, ap, ◌∙◌, append_assoc, arith, lit<}
 use Rattle.std.proofs.lemmas.Fmt.{length-decimal-le}
 use Rattle.std.proofs.lemmas.Bool.{lt-ltb, le-ltb}
 use Rattle.frame.proofs.Laid.{Put, put_on, put_as, laid_first}
 use Rattle.refusal.proofs.Lines.{first_pass, first_hit}
-use Rattle.refusal.specs.Refusals.{Told, told, line as ruled, first_of}
+use Rattle.refusal.specs.Refusals.{told, line as ruled, first_of}
 use Rattle.print.specs.Texts.{refused_text}
 use Rattle.print.proofs.Lengths.{refused_length}
 use Rattle.print.proofs.refused.put_refused.Goals as goal

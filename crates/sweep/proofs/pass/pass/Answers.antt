@@ -1,9 +1,9 @@
-use Rattle.std.proofs.Common.{◌≡◌, ◌+◌, ◌-◌, ◌<◌, ◌≤◌, length, get_or, sym, refl, ◌∙◌, arith}
+use Rattle.std.proofs.Common.{◌+◌, get_or, refl, ◌∙◌, arith}
 use Rattle.model.specs.Path.{start}
 use Rattle.sweep.specs.Views.{view, part}
 use Rattle.theory.specs.Sweep.{inner, pass}
 use Rattle.sweep.proofs.Parts.{part_more, part_none}
-use Rattle.sweep.proofs.Passes.{Along, along_more, along_stop, along_end}
+use Rattle.sweep.proofs.Passes.{along_more, along_stop, along_end}
 use Rattle.sweep.proofs.pass.pass.Goals as goal
 
 pub loop-other-init : goal.loop-other-init

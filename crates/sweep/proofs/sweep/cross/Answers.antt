@@ -1,8 +1,8 @@
-use Rattle.std.proofs.Common.{◌≡◌, true, false, List, ◌++◌, sym, refl, ap, ◌∙◌, subst₂, arith}
+use Rattle.std.proofs.Common.{true, false, List, ◌++◌, sym, ap, ◌∙◌, subst₂, arith}
 use Rattle.std.proofs.lemmas.List.{append_assoc}
 use Rattle.model.specs.declared.point.Point.{Point}
 use Rattle.sweep.specs.Ready.{Ready}
-use Rattle.sweep.specs.Swept.{stake_at, reached, cross}
+use Rattle.sweep.specs.Swept.{stake_at, reached}
 use Rattle.sweep.specs.Views.{view}
 use Rattle.theory.specs.Sweep.{inner, Funnel}
 use Rattle.sweep.proofs.Crossing.{cross_is, still_ready}

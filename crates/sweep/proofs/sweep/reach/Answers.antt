@@ -1,6 +1,5 @@
-use Rattle.std.proofs.Common.{◌≡◌, List, [], ◌++◌, sym, refl, ap, ◌∙◌, arith}
+use Rattle.std.proofs.Common.{◌++◌, sym, refl, ap, ◌∙◌, arith}
 use Rattle.std.proofs.lemmas.List.{append-nil}
-use Rattle.model.specs.declared.point.Point.{Point}
 use Rattle.sweep.specs.Views.{view}
 use Rattle.theory.specs.Sweep.{inner, Funnel}
 use Rattle.sweep.proofs.Taking.{reached_in, reached_not}

@@ -1,4 +1,4 @@
-use Rattle.std.proofs.Common.{◌≡◌, ℕ, suc, ◌-◌, ◌<◌, Bool, true, false, List, ◌∷◌, get_or, sym, ap, ◌∙◌, subst, arith}
+use Rattle.std.proofs.Common.{◌≡◌, ℕ, ◌-◌, Bool, true, false, List, ◌∷◌, get_or, sym, subst, arith}
 use Rattle.model.specs.Path.{start}
 use Rattle.model.specs.declared.point.Point.{Point}
 use Rattle.theory.specs.Sweep.{inner, inward}

@@ -1,4 +1,4 @@
-use Rattle.std.proofs.Common.{◌≡◌, ◌<◌, ◌≤◌, false, ◌∷◌, length, get_or}
+use Rattle.std.proofs.Common.{◌≡◌, ◌<◌, ◌≤◌, false, ◌∷◌, get_or}
 use Rattle.model.specs.Path.{start}
 use Rattle.theory.specs.Sweep.{inner, inward}
 use Rattle.sweep.proofs.tighten.kept.Given as goal

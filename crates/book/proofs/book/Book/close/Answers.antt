@@ -1,14 +1,13 @@
-use Rattle.std.proofs.Common.{◌≡◌, ℕ, ◌+◌, ◌-◌, ◌<◌, ◌≤◌, Bool, true, false, List, [], ◌∷◌, get_or, Err, Result, sym, refl, ap, ◌∙◌, subst, arith, rules}
+use Rattle.std.proofs.Common.{◌≡◌, ℕ, ◌+◌, ◌-◌, ◌<◌, ◌≤◌, true, List, [], ◌∷◌, get_or, Err, Result, sym, refl, ap, ◌∙◌, subst, arith, rules}
 use Rattle.std.proofs.lemmas.Result.{err_from_is_err_and}
 use Rattle.model.specs.Sums.{sum_to}
-use Rattle.model.specs.Charges.{charge, cost}
+use Rattle.model.specs.Charges.{cost}
 use Rattle.model.specs.Plan.{plan}
 use Rattle.model.specs.declared.job.Job.{Job}
 use Rattle.model.specs.declared.segment.Segment.{Segment}
 use Rattle.model.specs.declared.step.Step.{Step as Level}
 use Rattle.charges.specs.Owing.{settled}
 use Rattle.charges.specs.Rows.{rows_of}
-use Rattle.planner.specs.Drafts.{segments_of}
 use Rattle.queue.specs.Meaning.{jobs_of}
 use Rattle.queue.specs.Queues.{standing}
 use Rattle.refusal.specs.Refusals.{told_of}

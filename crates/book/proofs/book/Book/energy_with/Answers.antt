@@ -1,4 +1,4 @@
-use Rattle.std.proofs.Common.{◌≡◌, ℕ, Bool, true, List, [], ◌∷◌, ◌++◌, IfOk, Some, Ok, Err, Result, sym, refl, ap, ◌∙◌, subst}
+use Rattle.std.proofs.Common.{◌≡◌, ℕ, true, List, [], ◌∷◌, IfOk, Some, Ok, Err, Result, sym, ap, ◌∙◌, subst}
 use Rattle.model.specs.Charges.{cost}
 use Rattle.model.specs.declared.job.Job.{Job}
 use Rattle.model.specs.declared.step.Step.{Step}
@@ -8,7 +8,7 @@ use Rattle.queue.specs.Queues.{push_lines}
 use Rattle.std.proofs.lemmas.Result.{err_from_is_err_and}
 use Rattle.refusal.specs.Refusals.{told_of, outcome, first_of}
 use Rattle.refusal.specs.declared.refusal.Refusal.{Refusal}
-use Rattle.book.specs.Calls.{State, with_job}
+use Rattle.book.specs.Calls.{with_job}
 use Rattle.book.specs.Waits.{may_wait}
 use Rattle.book.proofs.Pricing.{popped}
 use Rattle.book.proofs.Promises.{hit_front, pass_longer}

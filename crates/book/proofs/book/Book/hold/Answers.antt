@@ -1,20 +1,16 @@
-use Rattle.std.proofs.Common.{◌≡◌, ℕ, ◌-◌, ◌<◌, ◌≤◌, Bool, true, false, not, List, [], ◌∷◌, ◌++◌, IfOk, Some, Err, Result, sym, refl, ap, ◌∙◌, subst, arith}
+use Rattle.std.proofs.Common.{◌≡◌, ℕ, ◌-◌, List, [], ◌∷◌, IfOk, Err, Result, sym, refl, ap, ◌∙◌, subst, arith}
 use Rattle.std.proofs.lemmas.Result.{err_from_is_err_and}
-use Rattle.std.proofs.lemmas.Bool.{not_from_false}
 use Rattle.model.specs.Charges.{cost}
-use Rattle.model.specs.declared.job.Job.{Job}
 use Rattle.model.specs.declared.step.Step.{Step as Level}
-use Rattle.queue.specs.Meaning.{jobs_of}
 use Rattle.planner.specs.Planning.{want_line}
 use Rattle.refusal.specs.Refusals.{told_of, first_of}
 use Rattle.refusal.specs.declared.refusal.Refusal.{Refusal}
 use Rattle.book.specs.Books.{state, said_price}
 use Rattle.book.specs.Calls.{State, with_job, holding}
 use Rattle.book.specs.Calls.Call.{holds}
-use Rattle.book.specs.Calls.Answer.{refused, priced}
+use Rattle.book.specs.Calls.Answer.{refused}
 use Rattle.book.specs.declared.slip.Slip.{Slip}
-use Rattle.book.specs.Waits.{may_wait}
-use Rattle.book.proofs.Pricing.{hold_open, hold_stopped, hold_able, hold_cheap, hold_taken, hold_waits}
+use Rattle.book.proofs.Pricing.{hold_open, hold_stopped, hold_able, hold_cheap, hold_taken}
 use Rattle.book.proofs.Promises.{step_at}
 use Rattle.book.proofs.book.Book.hold.Goals as goal
 

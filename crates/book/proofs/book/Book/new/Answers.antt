@@ -1,4 +1,4 @@
-use Rattle.std.proofs.Common.{◌≡◌, ℕ, ◌≤◌, List, get_or, refl, ap, ◌∙◌, arith}
+use Rattle.std.proofs.Common.{◌≡◌, ℕ, List, get_or, refl, ap, ◌∙◌, arith}
 use Rattle.model.specs.Sums.{sum_to}
 use Rattle.charges.specs.Rows.{rows_of}
 use Rattle.book.specs.Calls.{charged}

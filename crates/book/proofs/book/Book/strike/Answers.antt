@@ -1,4 +1,4 @@
-use Rattle.std.proofs.Common.{◌≡◌, sym, ◌∙◌, arith}
+use Rattle.std.proofs.Common.{sym, ◌∙◌}
 use Rattle.book.specs.Books.{state}
 use Rattle.queue.specs.Meaning.{jobs_of}
 use Rattle.book.proofs.Entering.{strike_open, strike_bare, strike_last}

@@ -1,4 +1,4 @@
-use Rattle.std.proofs.Common.{◌≡◌, ℕ, ◌-◌, ◌<◌, ◌≤◌, true, List, [], ◌∷◌, length, take, sym, refl, ap, ◌∙◌, subst, arith, rules}
+use Rattle.std.proofs.Common.{◌≡◌, ℕ, ◌-◌, true, List, [], ◌∷◌, length, take, sym, refl, ap, ◌∙◌, subst, arith, rules}
 use Rattle.model.specs.Charges.{cost}
 use Rattle.model.specs.Plan.{plan}
 use Rattle.model.specs.declared.cut.Cut.{Cut}
@@ -7,11 +7,11 @@ use Rattle.model.specs.declared.point.Point.{Point}
 use Rattle.sweep.specs.Swept.{swept}
 use Rattle.theory.specs.Survey.{survey}
 use Rattle.theory.specs.Sweep.{sweep}
-use Rattle.refusal.specs.Refusals.{told, first_of}
+use Rattle.refusal.specs.Refusals.{first_of}
 use Rattle.queue.specs.Queues.{standing}
 use Rattle.queue.proofs.Order.{ordered_from}
 use Rattle.queue.proofs.Bounds.{span_limit, total_limit}
-use Rattle.planner.specs.Planning.{want_line, Worth}
+use Rattle.planner.specs.Planning.{want_line}
 use Rattle.planner.proofs.Worthy.{worthy}
 use Rattle.planner.proofs.Worked.{found_within, found_refused, none_found, none_accepted, lent_cuts, lent_few, lent_rising, corners_are, corners_drawable, drawn_plan, drawn_cost}
 use Rattle.planner.proofs.draft.Draft.work_out.Goals as goal

@@ -1,4 +1,4 @@
-use Rattle.std.proofs.Common.{◌≡◌, List, length, Ok, sym, ap, ◌∙◌, rules}
+use Rattle.std.proofs.Common.{List, length, Ok, sym, ap, ◌∙◌, rules}
 use Rattle.model.specs.declared.step.Step.{Step}
 use Rattle.processor.specs.Rules.{paired}
 use Rattle.processor.proofs.Exact.{exactly}

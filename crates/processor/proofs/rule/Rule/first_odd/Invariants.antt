@@ -1,4 +1,4 @@
-use Rattle.std.proofs.Common.{◌≡◌, ◌^◌, ◌<◌}
+use Rattle.std.proofs.Common.{◌≡◌}
 use Rattle.model.specs.Sums.{first_below}
 use Rattle.processor.specs.Rules.{odd_at}
 use Rattle.processor.proofs.rule.Rule.first_odd.Given as goal

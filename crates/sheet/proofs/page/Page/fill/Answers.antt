@@ -1,7 +1,6 @@
-use Rattle.std.proofs.Common.{◌≡◌, length, sym, refl, ap, ◌∙◌, arith}
-use Rattle.std.proofs.lemmas.Result.{err_from_is_err_and}
-use Rattle.sheet.specs.Answers.{drawn_text, fault_told}
-use Rattle.sheet.proofs.Filled.{page_text, page_fits, answer_none, answer_some, filled_none, filled_some}
+use Rattle.std.proofs.Common.{length, ap, ◌∙◌, arith}
+use Rattle.sheet.specs.Answers.{drawn_text}
+use Rattle.sheet.proofs.Filled.{page_text, page_fits, answer_none, filled_none}
 use Rattle.sheet.proofs.page.Page.fill.Goals as goal
 
 pub put_plan-requires : goal.put_plan-requires

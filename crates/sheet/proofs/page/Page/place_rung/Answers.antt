@@ -1,5 +1,3 @@
-use Rattle.std.proofs.Common.{refl, ap}
-use Rattle.sheet.specs.Pages.{is_made}
 use Rattle.sheet.proofs.Taking.{rung_late, rung_over, rung_placed}
 use Rattle.sheet.proofs.page.Page.place_rung.Goals as goal
 

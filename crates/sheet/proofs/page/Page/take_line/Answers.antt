@@ -1,4 +1,4 @@
-use Rattle.std.proofs.Common.{◌≡◌, true, Some, None, Option, sym, refl, ap, ◌∙◌}
+use Rattle.std.proofs.Common.{Some, None, Option, refl, ap, ◌∙◌}
 use Rattle.grammar.specs.declared.row.Row.{Row}
 use Rattle.sheet.specs.Pages.{sheet_of}
 use Rattle.sheet.specs.Sheets.{with_said}

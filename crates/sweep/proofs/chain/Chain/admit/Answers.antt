@@ -1,5 +1,5 @@
-use Rattle.std.proofs.Common.{◌≡◌, ℕ, ◌+◌, ◌-◌, ◌≤◌, List, length, sym, refl, ap, ◌∙◌, subst, arith, rules}
-use borrow.Rule.Slice.PartMut.{mid_of, put_mid, same_len_mid}
+use Rattle.std.proofs.Common.{◌≡◌, ◌-◌, List, length, sym, refl, ap, ◌∙◌, subst, arith}
+use borrow.Rule.Slice.PartMut.{same_len_mid}
 use Rattle.std.proofs.lemmas.List.{length-take-le}
 use Rattle.model.specs.declared.point.Point.{Point}
 use Rattle.sweep.specs.Ready.{Ready}

@@ -1,4 +1,4 @@
-use Rattle.std.proofs.Common.{refl, arith, rules}
+use Rattle.std.proofs.Common.{refl, arith}
 use Rattle.sweep.proofs.Parts.{put_part}
 use Rattle.sweep.proofs.chain.Chain.put.Goals as goal
 
