@@ -5,7 +5,7 @@
 ghost use Rattle.std.specs.Prelude.{◌≤◌, length, IfOk};
 
 use anyhow::anyhow;
-use sheet::print::print_sheet;
+use sheet::output::print_sheet;
 use std::io;
 use std::io::{Read, Write};
 

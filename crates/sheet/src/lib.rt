@@ -3,8 +3,8 @@
 
 pub mod drawing;
 pub mod fault;
+pub mod output;
 mod page;
-pub mod print;
 mod reading;
 pub mod refused;
 mod rows;

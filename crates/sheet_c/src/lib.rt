@@ -4,7 +4,7 @@
 ghost use Rattle.std.specs.Prelude.{◌≡◌, length};
 ghost use Rattle.sheet.specs.Answers.{printed, Prints};
 
-use sheet::print;
+use sheet::output;
 use std::alloc::Global;
 
 // Writes what a sheet gives from the buffer's start, and answers its length, or 0 where nothing was written: there is no memory for a
@@ -13,5 +13,5 @@ use std::alloc::Global;
 pub extern "C" fn nofjerm_plan_sheet(heap: Global, sheet: &[u8], out: &mut [u8]) -> usize
     ensures { Prints (printed (length out.old) sheet.now) out.old out.new result }
 {
-    print::nofjerm_plan_sheet(heap, sheet, out)
+    output::nofjerm_plan_sheet(heap, sheet, out)
 }

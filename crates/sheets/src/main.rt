@@ -3,7 +3,7 @@
 #![tactic(auto)]
 
 use anyhow::anyhow;
-use sheet::print::print_sheet;
+use sheet::output::print_sheet;
 use std::fs;
 
 // How many sheets were planned, refused, and answered otherwise than recorded.

@@ -2,7 +2,7 @@ use Rattle.std.proofs.Common.{ℕ, length, Result, subst}
 use Rattle.refusal.specs.declared.refusal.Refusal.{Refusal}
 use Rattle.sheet.specs.Answers.{fitting, printed}
 use Rattle.sheet.proofs.Printed.{prints}
-use Rattle.sheet.proofs.print.nofjerm_plan_sheet.Goals as goal
+use Rattle.sheet.proofs.output.nofjerm_plan_sheet.Goals as goal
 
 pub returns-in-Ok-answer : goal.returns-in-Ok-answer
 returns-in-Ok-answer c =

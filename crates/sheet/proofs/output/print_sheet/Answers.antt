@@ -3,7 +3,7 @@ use Rattle.sheet.specs.declared.fault.Fault.{Fault}
 use Rattle.print.specs.Texts.{refused_text}
 use Rattle.sheet.specs.Answers.{fault_told, fault_reply, printed}
 use Rattle.sheet.proofs.Printed.{drawn_fits, refused_printed, line_fits, fitting_same}
-use Rattle.sheet.proofs.print.print_sheet.Goals as goal
+use Rattle.sheet.proofs.output.print_sheet.Goals as goal
 
 pub returns-in-Ok : goal.returns-in-Ok
 returns-in-Ok c =
