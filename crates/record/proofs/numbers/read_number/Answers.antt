@@ -34,7 +34,7 @@ pub returns-then-byte-lt128 : goal.returns-then-byte-lt128
 returns-then-byte-lt128 c =
     let l = c.loop-k in
     let b = get_or c.args.bytes.now l.at 0 in
-    let f = closed c.args.bytes.now c.args.start l.at l.k l.n l.scale b l.invariant c.loop-k-test.true (omega arith) refl c.if-byte-lt128.true (λ p. omega (arith, c.else-k-gt0.either)) in
+    let f = closed c.args.bytes.now c.args.start l.at l.k l.n l.scale b l.invariant c.loop-k-test.true (omega arith) refl c.if-byte-lt128.true (λ p. omega arith) in
     record { reads = f.0; exact = (f.1, f.2) }
 
 pub overflow_mul-n : goal.overflow_mul-n
