@@ -22,7 +22,8 @@ use want::search::want_of_speed;
 impl Draft {
     // A draft without segments.
     pub fn blank() -> Draft
-        ensures { segments_of result ≡ [] }
+        ensures made { segments_of result ≡ [] }
+        ensures figure { result.energy ≡ 0 }
     {
         Draft {
             segments: [Segment { step: 0, ticks: 0 }; 1024],
