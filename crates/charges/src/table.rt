@@ -5,6 +5,9 @@ ghost use Rattle.model.specs.Sums.{sum_to};
 
 use crate::charges::{Charge, Charges};
 
+// The last account.
+const LAST_ACCOUNT: usize = 64;
+
 impl Charges {
     // A table on which nobody has been charged.
     pub fn new() -> Charges
@@ -19,7 +22,7 @@ impl Charges {
     pub fn charge(&self, account: usize) -> Option<u64>
         ensures { result ≡ (if nat_le account 64 then Some (slice_index (rows_of self.now) account) else None) }
     {
-        if account <= 64 {
+        if account <= LAST_ACCOUNT {
             Some(self.rows[account].energy)
         } else {
             None

@@ -18,6 +18,9 @@ pub(crate) struct Passed {
     pub(crate) step: usize,
 }
 
+// How many segments a record has at the most.
+const MOST_SEGMENTS: u64 = 1024;
+
 // Checks all that follows the kind, by a processor of so many steps, where there is room for so many segments.
 pub(crate) fn check(
     bytes: &[u8],
@@ -29,7 +32,7 @@ pub(crate) fn check(
     ensures { Checks bytes.now start steps room tick result }
 {
     let (count, first) = read_number(bytes, start)?;
-    if count > 1024 {
+    if count > MOST_SEGMENTS {
         return Err(Refusal::Segments);
     }
     if count > room as u64 {

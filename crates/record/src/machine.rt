@@ -5,6 +5,9 @@ ghost use Rattle.record.specs.Reading.{machine_answer, numbered, read_any};
 use crate::check::check;
 use refusal::refusal::Refusal;
 
+// The first number that a kind of processor may have.
+const FIRST_KIND: u8 = 1;
+
 // The step at a tick of a record by any processor, or why there is none.
 fn step_at(record: &[u8], tick: u64) -> Result<usize, Refusal>
     ensures low { IfOk result (λ n. n ≤ 16) }
@@ -14,7 +17,7 @@ fn step_at(record: &[u8], tick: u64) -> Result<usize, Refusal>
         return Err(Refusal::Ended);
     }
     let kind = record[0];
-    if kind < 1 || kind > 127 {
+    if kind < FIRST_KIND || kind > 127 {
         return Err(Refusal::Kind);
     }
     let passed = check(record, 1, 16, 1024, tick)?;

@@ -17,17 +17,17 @@ returns-in_err-count c =
     checks_err a.bytes.now a.start a.steps a.room a.tick c.from_residual.result y.0 e y.1 y.2
     (no_count a.steps a.room (drop a.start a.bytes.now) (told_of e) c.in_err-count.ensures.reads)
 
-pub returns-then-count-gt1024 : goal.returns-then-count-gt1024
-returns-then-count-gt1024 c =
+pub returns-then-count-gt-MOST_SEGMENTS : goal.returns-then-count-gt-MOST_SEGMENTS
+returns-then-count-gt-MOST_SEGMENTS c =
     let a = c.args in
     let n = c.in_ok-count in
-    too_many a.steps a.room n.count (drop a.start a.bytes.now) (drop n.first a.bytes.now) n.ensures.reads c.if-count-gt1024.true
+    too_many a.steps a.room n.count (drop a.start a.bytes.now) (drop n.first a.bytes.now) n.ensures.reads c.if-count-gt-MOST_SEGMENTS.true
 
 pub returns-then-count-room : goal.returns-then-count-room
 returns-then-count-room c =
     let a = c.args in
     let n = c.in_ok-count in
-    no_room a.steps a.room n.count (drop a.start a.bytes.now) (drop n.first a.bytes.now) n.ensures.reads c.if-count-gt1024.false c.if-count-room.true
+    no_room a.steps a.room n.count (drop a.start a.bytes.now) (drop n.first a.bytes.now) n.ensures.reads c.if-count-gt-MOST_SEGMENTS.false c.if-count-room.true
 
 pub loop-k-init : goal.loop-k-init
 loop-k-init c =
@@ -42,7 +42,7 @@ returns-in_err-segment c =
     let n = c.in_ok-count in
     let l = c.loop-k in
     checks_err a.bytes.now a.start a.steps a.room a.tick c.from_residual-in_err-segment.result y.0 e y.1 y.2
-    (to_segments a.steps a.room n.count (drop a.start a.bytes.now) (drop n.first a.bytes.now) n.ensures.reads c.if-count-gt1024.false c.if-count-room.false
+    (to_segments a.steps a.room n.count (drop a.start a.bytes.now) (drop n.first a.bytes.now) n.ensures.reads c.if-count-gt-MOST_SEGMENTS.false c.if-count-room.false
     ∙ sofar_refused a.bytes.now n.first a.steps n.count l._k l.at l.before l.ticks l.invariant.0 (told_of e) l.invariant.1 c.loop-k-test.true c.in_err-segment.ensures.reads)
 
 pub loop-k-preserved : goal.loop-k-preserved
@@ -66,7 +66,7 @@ returns-then-at-bytes c =
     let a = c.args in
     let n = c.in_ok-count in
     let l = c.loop-k in
-    to_segments a.steps a.room n.count (drop a.start a.bytes.now) (drop n.first a.bytes.now) n.ensures.reads c.if-count-gt1024.false c.if-count-room.false
+    to_segments a.steps a.room n.count (drop a.start a.bytes.now) (drop n.first a.bytes.now) n.ensures.reads c.if-count-gt-MOST_SEGMENTS.false c.if-count-room.false
     ∙ sofar_surplus a.bytes.now n.first a.steps n.count l._k l.at l.before l.ticks l.invariant.0 l.invariant.1 c.loop-k-test.false c.if-at-bytes.true
 
 pub returns : goal.returns
@@ -79,7 +79,7 @@ returns c =
     let many : n.count ≡ length ss = omega (arith, c.loop-k-test.false, l.auto._k-end, l.invariant.1.many) in (
       ss,
       record {
-        reads = to_segments a.steps a.room n.count (drop a.start a.bytes.now) (drop n.first a.bytes.now) n.ensures.reads c.if-count-gt1024.false c.if-count-room.false ∙ all.0;
+        reads = to_segments a.steps a.room n.count (drop a.start a.bytes.now) (drop n.first a.bytes.now) n.ensures.reads c.if-count-gt-MOST_SEGMENTS.false c.if-count-room.false ∙ all.0;
         again = all.0;
         exact =
             n.ensures.exact.1

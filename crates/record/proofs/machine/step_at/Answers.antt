@@ -6,17 +6,17 @@ use Rattle.record.specs.Reading.{machine_answer, read_any}
 use Rattle.record.proofs.Exits.{numbered_err}
 use Rattle.record.proofs.Wholes.{any_ended, any_kindless, any_body, answer_past, answer_step}
 use Rattle.record.proofs.machine.step_at.Goals as goal
-use Rattle.record.proofs.machine.step_at.Goals.{then-kind-lt1-via-then-kind-lt1, then-kind-lt1-via-else-kind-lt1+then-kind-gt127}
+use Rattle.record.proofs.machine.step_at.Goals.{then-kind-lt-FIRST_KIND-via-then-kind-lt-FIRST_KIND, then-kind-lt-FIRST_KIND-via-else-kind-lt-FIRST_KIND+then-kind-gt127}
 
 pub returns-then-record-eq0 : goal.returns-then-record-eq0
 returns-then-record-eq0 c =
     record { low = tt; answer = sym (ap (λ (g : Got (List Segment)). machine_answer g c.args.tick) (any_ended c.args.record.now (omega (arith, c.if-record-eq0.true)))) }
 
-pub returns-then-kind-lt1 : goal.returns-then-kind-lt1
-returns-then-kind-lt1 c =
+pub returns-then-kind-lt-FIRST_KIND : goal.returns-then-kind-lt-FIRST_KIND
+returns-then-kind-lt-FIRST_KIND c =
     let b = c.args.record.now in
     let way : (get_or b 0 0 < 1) ⊎ (127 < get_or b 0 0) =
-    elim c.then-kind-lt1.branch [ then-kind-lt1-via-then-kind-lt1 w ↦ inl w.if-kind-lt1.true | then-kind-lt1-via-else-kind-lt1+then-kind-gt127 w ↦ inr w.if-kind-gt127.true ]
+    elim c.then-kind-lt-FIRST_KIND.branch [ then-kind-lt-FIRST_KIND-via-then-kind-lt-FIRST_KIND w ↦ inl w.if-kind-lt-FIRST_KIND.true | then-kind-lt-FIRST_KIND-via-else-kind-lt-FIRST_KIND+then-kind-gt127 w ↦ inr w.if-kind-gt127.true ]
     in
     record { low = tt; answer = sym (ap (λ (g : Got (List Segment)). machine_answer g c.args.tick) (any_kindless b (omega (arith, c.if-record-eq0.false)) way)) }
 
@@ -31,7 +31,7 @@ returns-in_err-passed c =
           numbered_err c.from_residual.result y.0 e y.1 y.2
           ∙ sym
           (ap (λ (g : Got (List Segment)). machine_answer g c.args.tick)
-          (any_body b (omega (arith, c.if-record-eq0.false)) (omega (arith, c.if-kind-lt1.false)) (omega (arith, c.if-kind-gt127.false)) ∙ c.in_err-passed.ensures));
+          (any_body b (omega (arith, c.if-record-eq0.false)) (omega (arith, c.if-kind-lt-FIRST_KIND.false)) (omega (arith, c.if-kind-gt127.false)) ∙ c.in_err-passed.ensures));
     }
 
 pub returns-then-passed-tick : goal.returns-then-passed-tick
@@ -42,7 +42,7 @@ returns-then-passed-tick c =
       low = tt;
       answer =
           answer_past (read_any b) c.args.tick c.in_ok-passed.passed.ticks f.0
-          (any_body b (omega (arith, c.if-record-eq0.false)) (omega (arith, c.if-kind-lt1.false)) (omega (arith, c.if-kind-gt127.false)) ∙ f.1.reads)
+          (any_body b (omega (arith, c.if-record-eq0.false)) (omega (arith, c.if-kind-lt-FIRST_KIND.false)) (omega (arith, c.if-kind-gt127.false)) ∙ f.1.reads)
           f.1.ticks c.if-passed-tick.true;
     }
 
@@ -54,6 +54,6 @@ returns c =
       low = f.1.low;
       answer =
           answer_step (read_any b) c.args.tick c.in_ok-passed.passed.ticks c.in_ok-passed.passed.step f.0
-          (any_body b (omega (arith, c.if-record-eq0.false)) (omega (arith, c.if-kind-lt1.false)) (omega (arith, c.if-kind-gt127.false)) ∙ f.1.reads)
+          (any_body b (omega (arith, c.if-record-eq0.false)) (omega (arith, c.if-kind-lt-FIRST_KIND.false)) (omega (arith, c.if-kind-gt127.false)) ∙ f.1.reads)
           f.1.step c.if-passed-tick.false;
     }
