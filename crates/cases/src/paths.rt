@@ -2,39 +2,41 @@
 use model::job::Job;
 use planner::path::path;
 use queue::queue::Queue;
-use std::alloc::{AllocError, Global};
-use std::process::Abort;
 use std::test::*;
 
+// A failure where something does not hold.
+fn check(holds: bool, otherwise: &str) -> Result<(), Fail> {
+    if holds {
+        Ok(())
+    } else {
+        Err(Fail::new(otherwise))
+    }
+}
+
 // The queue of these jobs.
-fn queue_of(rt: &impl Abort, alloc: Global, jobs: &[Job]) -> Result<Queue, AllocError> {
-    let mut queue = Queue::new(alloc)?;
+fn queue_of(rt: &HostRuntime, jobs: &[Job]) -> Result<Queue, Fail> {
+    let mut queue = Queue::new(rt.alloc())?;
     for job in jobs {
-        assert!(rt; queue.push(*job).is_ok());
+        check(queue.push(*job).is_ok(), "a job is refused")?;
     }
     Ok(queue)
 }
 
 // Whether the path of the jobs has these corners.
-fn bends_at(
-    rt: &impl Abort,
-    alloc: Global,
-    jobs: &[Job],
-    corners: &[(u32, u32)],
-) -> Result<(), AllocError> {
-    let queue = queue_of(rt, alloc, jobs)?;
+fn bends_at(rt: &HostRuntime, jobs: &[Job], corners: &[(u32, u32)]) -> Result<(), Fail> {
+    let queue = queue_of(rt, jobs)?;
     let path = path(&queue);
     let found = path.points();
-    assert_eq!(rt; found.len(), corners.len());
+    check(found.len() == corners.len(), "more corners, or fewer")?;
     for (point, (time, height)) in found.iter().zip(corners.iter()) {
-        assert_eq!(rt; point.time, *time);
-        assert_eq!(rt; point.height, *height);
+        check(point.time == *time, "a corner at another time")?;
+        check(point.height == *height, "a corner at another height")?;
     }
     Ok(())
 }
 
 #[test]
-fn one_rise(rt: HostRuntime) -> Result<(), AllocError> {
+fn one_rise(rt: HostRuntime) -> Result<(), Fail> {
     let jobs = [
         Job {
             arrival: 3,
@@ -49,11 +51,11 @@ fn one_rise(rt: HostRuntime) -> Result<(), AllocError> {
             account: 2,
         },
     ];
-    bends_at(&rt, rt.alloc(), &jobs, &[(3, 0), (11, 9)])
+    bends_at(&rt, &jobs, &[(3, 0), (11, 9)])
 }
 
 #[test]
-fn two_falls(rt: HostRuntime) -> Result<(), AllocError> {
+fn two_falls(rt: HostRuntime) -> Result<(), Fail> {
     let jobs = [
         Job {
             arrival: 0,
@@ -80,5 +82,5 @@ fn two_falls(rt: HostRuntime) -> Result<(), AllocError> {
             account: 2,
         },
     ];
-    bends_at(&rt, rt.alloc(), &jobs, &[(1, 10), (12, 40), (14, 41)])
+    bends_at(&rt, &jobs, &[(1, 10), (12, 40), (14, 41)])
 }
