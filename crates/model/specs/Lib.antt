@@ -6,3 +6,4 @@ pub mod Plan
 pub mod Ways
 pub mod Speed
 pub mod Charges
+pub mod Shown

@@ -1,5 +1,5 @@
 -- Refusals as their readers see them: a number and a detail; and tables of conditions, of which the first that holds is given.
-use Rattle.std.specs.Prelude.{ℕ, Bool, cond, List, [], ◌∷◌, Some, None, Ok, Err, Option, Result}
+use Rattle.std.specs.Prelude.{ℕ, Bool, cond, List, [], ◌∷◌, ◌++◌, Some, None, Ok, Err, codes, decimal, Option, Result}
 use Rattle.refusal.specs.declared.term.Term.{Term}
 use Rattle.refusal.specs.declared.term.Term.TheVariants.{Constant, Linear, Cubic}
 use Rattle.refusal.specs.declared.refusal.Refusal.{Refusal}
@@ -50,6 +50,10 @@ told_of Malformed = told 26 0
 told_of Kind = told 27 0
 told_of Surplus = told 28 0
 told_of Past = told 29 0
+
+-- the number, and the detail in brackets
+abbrev pub told_text : Told → List ℕ
+told_text t = decimal t.number ++ (codes " (" ++ (decimal t.detail ++ codes ")"))
 
 -- what a call's answer tells: nothing where it was accepted
 abbrev pub outcome : {X : Type 0} → Result X Refusal → Option Told

@@ -3,4 +3,5 @@
 
 pub mod number;
 pub mod refusal;
+pub mod shown;
 pub mod term;
