@@ -1,7 +1,10 @@
 -- What a queue keeps, as one job more is put at its end and as jobs are taken from it.
-use Rattle.std.proofs.Common.{◌≡◌, ℕ, suc, ◌-◌, ◌<◌, ◌≤◌, true, ◌&&◌, ltb, leb, List, [], ◌∷◌, ◌++◌, length, get_or, take, sym, ap, ◌∙◌, subst, subst₂, inl, inr, arith}
+use Rattle.std.proofs.Common.{◌≡◌, ℕ, suc, ◌-◌, ◌<◌, ◌≤◌, Bool, true, ◌&&◌, ltb, leb, List, [], ◌∷◌, ◌++◌, length, get_or, take, sym, ap, ◌∙◌, subst, subst₂, inl, inr, Option, Some, None, MatchOption, Bor, arith}
 use lib.Dec.{leb-zero}
-use Rattle.std.proofs.lemmas.List.{length_push, get_or_push, get_or_append_left, length-take, get_or-take, get_or_past, get_or_read_under}
+use Rattle.std.proofs.lemmas.List.{length_push, get_or_push, get_or_append_left, length-take, get_or-take, get_or_past}
+use Rattle.std.proofs.lemmas.Option.{none-some, get_or_from_slice_get, slice_get_cases}
+use Rattle.std.specs.Option.{option_copied}
+use Rattle.std.specs.List.{slice_get}
 use Rattle.std.proofs.lemmas.Bool.{and_parts, and_from, cases_lt, leb-true, ltb-true}
 use Rattle.model.specs.Jobs.{no_job, job_at, Ordered}
 use Rattle.model.specs.declared.job.Job.{Job}
@@ -108,8 +111,14 @@ follows_none jobs j e =
     let p : get_or jobs (length jobs - 1) no_job ≡ no_job = get_or_past jobs (length jobs - 1) no_job (omega arith) in
     subst (λ (x : Job). follows x j ≡ true) (sym p) (and_from _ _ (leb-zero j.arrival) (leb-zero j.deadline))
 
--- the last job, as a read of the last place gives it
-pub last_read : (jobs : List Job) (n : ℕ) (x : Job) → n ≡ length jobs → (n ≡ 0 → ⊥) → x ≡ get_or jobs (n - 1) x → last_of jobs ≡ x
+-- what is asked of the last job, where there is one
+pub followed :
+    (jobs : List Job) (o : Option (Bor Job)) (j : Job) (b : Bool) → option_copied o ≡ slice_get jobs (length jobs - 1)
+    → MatchOption o (b ≡ true) (λ x. b ≡ follows x.now j) → b ≡ follows (last_of jobs) j
 unfolding last_of job_at
-last_read jobs n x e p h =
-    ap (λ (m : ℕ). get_or jobs (m - 1) no_job) (sym e) ∙ sym (get_or_read_under jobs (n - 1) n x no_job h (omega arith) e)
+followed jobs None j b e m =
+    elim (slice_get_cases jobs (length jobs - 1)).1 [
+      | inl (x, l, s, g) ↦ absurd (none-some x (e ∙ s))
+      | inr (l, s) ↦ m ∙ sym (follows_none jobs j (omega arith))
+    ]
+followed jobs (Some x) j b e m = m ∙ ap (λ (y : Job). follows y j) (sym (get_or_from_slice_get jobs (length jobs - 1) x.now no_job (sym e)))

@@ -5,6 +5,7 @@ ghost use Rattle.queue.specs.Meaning.{jobs_of};
 ghost use Rattle.refusal.specs.Refusals.{outcome, first_of};
 
 use crate::queue::Queue;
+use crate::standing::Standing;
 use model::job::Job;
 use refusal::refusal::Refusal;
 use std::alloc::{AllocError, Global};
@@ -32,16 +33,21 @@ impl Queue {
         self.jobs.as_slice()
     }
 
+    // The jobs with what the queue keeps of them.
+    pub fn standing(&self) -> Standing<'_>
+        ensures { result.jobs.now ≡ jobs_of self.now }
+    {
+        let jobs = self.jobs.as_slice();
+        Standing { jobs }
+    }
+
     // Whether neither arrival nor deadline of a job is below that of the last job.
     fn follows(&self, job: Job) -> bool
         ensures { result ≡ follows (last_of (jobs_of self.now)) job }
     {
-        let n = self.jobs.len();
-        if n == 0 {
-            return true;
-        }
-        let last = self.jobs[n - 1];
-        last.arrival <= job.arrival && last.deadline <= job.deadline
+        self.jobs.last().is_none_or(|last| {
+            last.arrival <= job.arrival && last.deadline <= job.deadline
+        })
     }
 
     // Whether a job may stand at the end, or why not.
