@@ -1,6 +1,7 @@
 -- What the fronts of the two walls tell of a time: the heights there, and whether a wall puts a point.
 -- The jobs are in order, so those that a wall counts before a time are the first ones, and their works add up to its height.
-use Rattle.std.proofs.Common.{◌≡◌, ℕ, zero, suc, ◌+◌, ◌*◌, ◌<◌, ◌≤◌, Bool, true, false, cond, ◌||◌, eqb, ltb, leb, List, [], ◌∷◌, length, get_or, sym, refl, ◌∙◌, inl, inr, arith}
+use Rattle.std.proofs.Common.{◌≡◌, ℕ, zero, suc, ◌+◌, ◌-◌, ◌*◌, ◌<◌, ◌≤◌, Bool, true, false, cond, ◌||◌, eqb, ltb, leb, List, [], ◌∷◌, length, get_or, take, drop, length-drop, sym, refl, ap, ◌∙◌, inl, inr, arith}
+use Rattle.std.proofs.lemmas.List.{get_or-drop, take_all}
 use Rattle.std.proofs.lemmas.Bool.{cases_lt, cases_eq, cond-true, cond-false, or_left, or_right, or_from, lt-ltb, le-ltb, le-leb, lt-leb, eq-eqb, ne_eqb}
 use Rattle.model.specs.Sums.{sum_to, some_of}
 use Rattle.model.specs.Jobs.{no_job, job_at, Ordered, span, ceiling, floor, arrives, due}
@@ -30,6 +31,23 @@ pub works_small : (jobs : List Job) → standing jobs ≡ true → (i : ℕ) →
 unfolding sum_to
 works_small jobs e zero l = omega arith
 works_small jobs e (suc i) l = let a = works_small jobs e i (omega arith) in let b = work_small jobs e i l in omega arith
+
+-- a job of the rest of the jobs, from one on
+pub rest_at :
+    (jobs : List Job) (a i : ℕ) → i < length (take (length jobs - a) (drop a jobs))
+    → (a + i < length jobs) × (job_at (take (length jobs - a) (drop a jobs)) i ≡ job_at jobs (a + i))
+unfolding job_at
+rest_at jobs a i l =
+    let d = length-drop a jobs in
+    let t = take_all (length jobs - a) (drop a jobs) (omega arith) in
+    let n = ap (λ (xs : List Job). length xs) t in
+    (omega arith, ap (λ (xs : List Job). get_or xs i no_job) t ∙ get_or-drop a jobs i no_job)
+
+pub rest_length : (jobs : List Job) (a : ℕ) → a ≤ length jobs → a + length (take (length jobs - a) (drop a jobs)) ≡ length jobs
+rest_length jobs a l =
+    let d = length-drop a jobs in
+    let n = ap (λ (xs : List Job). length xs) (take_all (length jobs - a) (drop a jobs) (omega arith)) in
+    omega arith
 
 -- the height of the ceiling
 pub ceiling_is : (jobs : List Job) (t : ℕ) (f : Front) → Before true jobs t f → f.work ≡ ceiling jobs t

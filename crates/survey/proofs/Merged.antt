@@ -1,6 +1,6 @@
 -- The merge as a walk along the cuts: it stands at the cut at place n with the cuts before it written, and goes from it to the least time ahead.
-use Rattle.std.proofs.Common.{◌≡◌, ℕ, ◌+◌, ◌<◌, ◌≤◌, min, Bool, true, false, leb, ◌⊎◌, List, map, length, get_or, take, set, sym, refl, ap, ◌∙◌, subst, inl, inr, add-one, arith}
-use Rattle.std.proofs.lemmas.List.{take_more_set, take_all, map_more}
+use Rattle.std.proofs.Common.{◌≡◌, ℕ, ◌+◌, ◌<◌, ◌≤◌, min, Bool, true, false, leb, ◌⊎◌, List, [], ◌∷◌, ◌++◌, map, length, get_or, take, sym, refl, ap, ◌∙◌, subst, inl, inr, add-one, arith}
+use Rattle.std.proofs.lemmas.List.{take_all, map_more, length_push}
 use Rattle.std.proofs.lemmas.Bool.{cases_lt, cond-true, cond-false, le-leb, lt-leb}
 use Rattle.model.specs.Sums.{sum_to}
 use Rattle.model.specs.Jobs.{job_at, Ordered, cuts, span}
@@ -9,16 +9,17 @@ use Rattle.model.specs.declared.job.Job.{Job}
 use Rattle.theory.proofs.Cuts.{Among, arrival_cut, deadline_cut, cut_in_span}
 use Rattle.theory.specs.Survey.{cut_of, survey}
 use Rattle.survey.specs.Fronts.{time_of, Before, Both, soonest}
+use Rattle.survey.specs.declared.front.Front.{Front}
 use Rattle.survey.specs.declared.front.Fronts.{Fronts}
 use Rattle.survey.proofs.Counted.{times_climb}
 use Rattle.survey.proofs.Rising.{place_among, next_cut, last_cut, first_cut, cuts_all}
 
 -- before time 0 there is nothing
-pub none_before : (up : Bool) (jobs : List Job) → Before up jobs 0 (record { count = 0; work = 0 })
+pub none_before : (up : Bool) (jobs : List Job) (f : Front) → (f.count ≡ 0) × (f.work ≡ 0) → Before up jobs 0 f
 unfolding sum_to
-none_before up jobs = record {
+none_before up jobs f e = record {
   within = omega arith;
-  whole = refl;
+  whole = rw e.0 e.1;
   past = λ i l. absurd (omega arith);
   ahead = λ i a l. omega arith;
 }
@@ -42,11 +43,11 @@ front_stops up jobs t i w o l e p a = record {
 
 module _ (jobs : List Job) (f : Fronts) where
   -- the soonest time ahead where all jobs have come, and where some have not
-  soonest_all : length jobs ≤ f.came.count → soonest jobs f ≡ (job_at jobs f.due.count).deadline
+  pub soonest_all : length jobs ≤ f.came.count → soonest jobs f ≡ (job_at jobs f.due.count).deadline
   unfolding soonest
   soonest_all l = cond-true (leb (length jobs) f.came.count) _ _ (le-leb _ _ l)
 
-  soonest_some : f.came.count < length jobs → soonest jobs f ≡ min (job_at jobs f.came.count).arrival (job_at jobs f.due.count).deadline
+  pub soonest_some : f.came.count < length jobs → soonest jobs f ≡ min (job_at jobs f.came.count).arrival (job_at jobs f.due.count).deadline
   unfolding soonest
   soonest_some l = cond-false (leb (length jobs) f.came.count) _ _ (lt-leb _ _ l)
 
@@ -119,51 +120,54 @@ all_behind jobs o t f b e =
     (λ i k. let p = b.lower.past i (omega arith) in let h = o.timely i k in omega arith)
     (λ i k. let p = b.lower.past i (omega arith) in omega arith)
 
--- the merge stands at place n, at time t, with the cuts before written
-pub record At (jobs : List Job) (out : List Cut) (n t : ℕ) (f : Fronts) : Type 0 where
-  pub more : n < length (cuts jobs)
-  pub here : get_or (cuts jobs) n 0 ≡ t
-  pub written : take n out ≡ map (cut_of jobs) (take n (cuts jobs))
+-- the merge stands at time t, with the cuts before it written
+pub record At (jobs : List Job) (out : List Cut) (t : ℕ) (f : Fronts) : Type 0 where
+  pub more : length out < length (cuts jobs)
+  pub here : get_or (cuts jobs) (length out) 0 ≡ t
+  pub written : out ≡ map (cut_of jobs) (take (length out) (cuts jobs))
   pub fronts : Both jobs t f
 
-pub at_start : (jobs : List Job) (out : List Cut) → At jobs out 0 0 (record { came = record { count = 0; work = 0 }; due = record { count = 0; work = 0 } })
-at_start jobs out = record {
-  more = (first_cut jobs).0;
-  here = (first_cut jobs).1;
-  written = refl;
-  fronts = record { upper = none_before true jobs; lower = none_before false jobs };
+pub at_start :
+    (jobs : List Job) (out : List Cut) (f : Fronts) → out ≡ [] → ((f.came.count ≡ 0) × (f.came.work ≡ 0)) × ((f.due.count ≡ 0) × (f.due.work ≡ 0))
+    → At jobs out 0 f
+at_start jobs out f n e = record {
+  more = rw n (first_cut jobs).0;
+  here = rw n (first_cut jobs).1;
+  written = rw n refl;
+  fronts = record { upper = none_before true jobs f.came e.0; lower = none_before false jobs f.due e.1 };
 }
 
 -- the time is within the span
-pub at_within : (jobs : List Job) (out : List Cut) (n t : ℕ) (f : Fronts) → Ordered jobs → At jobs out n t f → t ≤ span jobs
-at_within jobs out n t f o a = subst (λ (x : ℕ). x ≤ span jobs) a.here (cut_in_span jobs o (get_or (cuts jobs) n 0) (place_among (cuts jobs) n a.more))
+pub at_within : (jobs : List Job) (out : List Cut) (t : ℕ) (f : Fronts) → Ordered jobs → At jobs out t f → t ≤ span jobs
+at_within jobs out t f o a =
+    subst (λ (x : ℕ). x ≤ span jobs) a.here (cut_in_span jobs o (get_or (cuts jobs) (length out) 0) (place_among (cuts jobs) (length out) a.more))
 
-module _ (jobs : List Job) (o : Ordered jobs) (out : List Cut) (n t : ℕ) (f g : Fronts) (x : Cut) (a : At jobs out n t f) (room : n < length out) (b : Both jobs (t + 1) g) (w : x ≡ cut_of jobs t) where
-  -- the cut at place n is written too
-  write_one : take (n + 1) (set out n x) ≡ map (cut_of jobs) (take (n + 1) (cuts jobs))
+module _ (jobs : List Job) (o : Ordered jobs) (out : List Cut) (t : ℕ) (f g : Fronts) (x : Cut) (a : At jobs out t f) (b : Both jobs (t + 1) g) (w : x ≡ cut_of jobs t) where
+  -- the cut at this time is written too
+  write_one : out ++ (x ∷ []) ≡ map (cut_of jobs) (take (length out + 1) (cuts jobs))
   write_one =
-      let p = take_more_set out n x room in
-      let m = map_more (cut_of jobs) (cuts jobs) n 0 a.more in
+      let m = map_more (cut_of jobs) (cuts jobs) (length out) 0 a.more in
       let h = a.here in
       let k = a.written in
       cc
 
   -- where a deadline is ahead, the merge goes on to the soonest time
-  pub at_next : (u : ℕ) → u ≡ soonest jobs g → g.due.count < length jobs → At jobs (set out n x) (n + 1) u g
+  pub at_next : (u : ℕ) → u ≡ soonest jobs g → g.due.count < length jobs → At jobs (out ++ (x ∷ [])) u g
   at_next u e l =
       let h = a.here in
-      let s : get_or (cuts jobs) n 0 < soonest jobs g = let k = soonest_after jobs o t g b l in omega arith in
-      let (m, z) = next_cut jobs n a.more (soonest jobs g) (soonest_cut jobs o t g b l) s (λ y q k. soonest_least jobs o t g b l y q (omega arith)) in
+      let s : get_or (cuts jobs) (length out) 0 < soonest jobs g = let k = soonest_after jobs o t g b l in omega arith in
+      let (m, z) = next_cut jobs (length out) a.more (soonest jobs g) (soonest_cut jobs o t g b l) s (λ y q k. soonest_least jobs o t g b l y q (omega arith)) in
+      let n : length (out ++ (x ∷ [])) ≡ length out + 1 = length_push out x in
       record {
         more = omega arith;
-        here = rw (add-one n) (z ∙ sym e);
-        written = write_one;
+        here = rw n (rw (add-one (length out)) (z ∙ sym e));
+        written = rw n write_one;
         fronts = subst (λ (y : ℕ). Both jobs y g) (sym e) (soonest_held jobs o t g b l);
       }
 
   -- where none is, all cuts are written
-  pub at_end : g.due.count ≡ length jobs → (take (n + 1) (set out n x) ≡ survey jobs) × (n + 1 ≡ length (cuts jobs))
+  pub at_end : g.due.count ≡ length jobs → out ++ (x ∷ []) ≡ survey jobs
   unfolding survey
   at_end e =
-      let k = last_cut jobs n a.more (λ y m. let h = a.here in let c = all_behind jobs o t g b e y m in omega arith) in
-      (write_one ∙ ap (map (cut_of jobs)) (take_all (n + 1) (cuts jobs) (omega arith)), omega arith)
+      let k = last_cut jobs (length out) a.more (λ y m. let h = a.here in let c = all_behind jobs o t g b e y m in omega arith) in
+      write_one ∙ ap (map (cut_of jobs)) (take_all (length out + 1) (cuts jobs) (omega arith))
