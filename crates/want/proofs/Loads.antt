@@ -1,10 +1,12 @@
 -- The runs to one job, from the shortest on: the load of each is that of the one before with one work more,
 -- and the job is starved where the first overfull one is met, and not where all are passed.
-use Rattle.std.proofs.Common.{◌≡◌, ℕ, zero, suc, ◌+◌, ◌-◌, ◌*◌, ◌<◌, ◌≤◌, true, false, ltb, List, length, Some, None, sym, ap, ◌∙◌, subst, inl, inr, mul-le-mul_right, mul-le-mul_left, arith}
+use Rattle.std.proofs.Common.{◌≡◌, ℕ, zero, suc, ◌+◌, ◌-◌, ◌*◌, ◌<◌, ◌≤◌, true, false, ltb, List, length, get_or, take, ◌++◌, [], ◌∷◌, Some, None, sym, refl, ap, ◌∙◌, subst, inl, inr, mul-le-mul_right, mul-le-mul_left, arith}
+use Rattle.std.proofs.lemmas.List.{length-take-le, length_push, get_or-take, get_or_push, take-take}
+use Rattle.std.proofs.Math.Seq.{take-append_seam}
 use Rattle.std.proofs.lemmas.Bool.{cases_lt, cases_Bool, cond-true, cond-false, lt-ltb, le-ltb, both_ways}
 use Rattle.model.specs.Sums.{sum_to, any_below, first_below}
 use Rattle.model.specs.Steps.{top_speed, Lawful}
-use Rattle.model.specs.Jobs.{job_at}
+use Rattle.model.specs.Jobs.{no_job, job_at}
 use Rattle.model.specs.Speed.{load, overfull, starved, wanting, want}
 use Rattle.model.specs.declared.job.Job.{Job}
 use Rattle.model.specs.declared.step.Step.{Step}
@@ -117,6 +119,65 @@ module _ (steps : List Step) (jobs : List Job) where
   pub overflows : (top i j w : ℕ) → top ≡ top_speed steps → w ≡ load jobs i j → top * ((job_at jobs j).deadline - (job_at jobs i).arrival) < w → overfull steps jobs i j ≡ true
   unfolding overfull
   overflows top i j w t e l = lt-ltb _ _ (let a = ap (λ (x : ℕ). x * ((job_at jobs j).deadline - (job_at jobs i).arrival)) t in omega arith)
+
+  -- the runs to j are passed that start after these first jobs, and the last of them has this load
+  pub record Left (rest : List Job) (j w : ℕ) : Type 0 where
+    pub begins : rest ≡ take (length rest) jobs
+    pub within : length rest ≤ j + 1
+    pub loaded : w ≡ load jobs (length rest) j
+    pub passed : Passed (length rest) j
+
+  pub left_all : (rest : List Job) (j : ℕ) → j < length jobs → rest ≡ take (j + 1) jobs → Left rest j 0
+  left_all rest j l e =
+      let n : length rest ≡ j + 1 = ap (λ (xs : List Job). length xs) e ∙ length-take-le (j + 1) jobs (omega arith) in
+      record {
+        begins = rw n e;
+        within = omega arith;
+        loaded = rw n (sym (load_none jobs j));
+        passed = rw n (passed_none j);
+      }
+
+  -- the last of them
+  pub record Last (rest more : List Job) (x : Job) (j w : ℕ) : Type 0 where
+    pub count : length rest ≡ length more + 1
+    pub within : length more ≤ j
+    pub here : job_at jobs (length more) ≡ x
+    pub begins : more ≡ take (length more) jobs
+    pub loaded : w + x.work ≡ load jobs (length more) j
+
+  pub last_left : (rest more : List Job) (x : Job) (j w : ℕ) → rest ≡ more ++ (x ∷ []) → Left rest j w → Last rest more x j w
+  unfolding job_at
+  last_left rest more x j w e l =
+      let n : length rest ≡ length more + 1 = ap (λ (xs : List Job). length xs) e ∙ length_push more x in
+      let t : more ++ (x ∷ []) ≡ take (length more + 1) jobs = sym e ∙ (l.begins ∙ ap (λ (k : ℕ). take k jobs) n) in
+      let h : get_or jobs (length more) no_job ≡ x =
+      sym (ap (λ (xs : List Job). get_or xs (length more) no_job) t ∙ get_or-take (length more + 1) jobs (length more) no_job (omega arith))
+      ∙ get_or_push more x no_job (length more) refl
+      in
+      let m = load_more jobs (length rest) j w (omega arith) l.within l.loaded in
+      let i : length rest - 1 ≡ length more = omega arith in
+      record {
+        count = n;
+        within = let a = l.within in omega arith;
+        here = h;
+        begins = sym (take-append_seam more (x ∷ [])) ∙ (ap (take (length more)) t ∙ take-take (length more) (length more + 1) jobs (omega arith));
+        loaded = ap (λ (y : Job). w + y.work) (sym h) ∙ (ap (λ (k : ℕ). w + (job_at jobs k).work) (sym i) ∙ (m ∙ ap (λ (k : ℕ). load jobs k j) i));
+      }
+
+  pub left_more : (rest more : List Job) (x : Job) (j w : ℕ) → Left rest j w → Last rest more x j w → overfull steps jobs (length more) j ≡ false → Left more j (w + x.work)
+  left_more rest more x j w l a e =
+      let i : length rest - 1 ≡ length more = let n = a.count in omega arith in
+      record {
+        begins = a.begins;
+        within = let b = a.within in omega arith;
+        loaded = a.loaded;
+        passed =
+            subst (λ (k : ℕ). Passed k j) i
+            (passed_more (length rest) j (let n = a.count in omega arith) l.passed (subst (λ (k : ℕ). overfull steps jobs k j ≡ false) (sym i) e));
+      }
+
+  pub none_left : (rest : List Job) (j w : ℕ) → length rest ≡ 0 → Left rest j w → starved steps jobs j ≡ false
+  none_left rest j w z l = not_starved j (subst (λ (k : ℕ). Passed k j) z l.passed)
 
   -- the answer where the search stopped at j, and where it came to the end
   pub wanted_here : (j : ℕ) → j < length jobs → first_below j (starved steps jobs) ≡ j → starved steps jobs j ≡ true → Some j ≡ wanted steps jobs

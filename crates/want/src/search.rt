@@ -1,11 +1,10 @@
 // The search for the first job that ends an overfull run.
-ghost use Rattle.std.specs.Prelude.{◌≡◌, ◌≤◌, true, length};
+ghost use Rattle.std.specs.Prelude.{◌≡◌};
 ghost use Rattle.model.specs.Steps.{top_speed};
-ghost use Rattle.queue.specs.Queues.{standing};
 ghost use Rattle.want.specs.Wanted.{wanted};
 
-use model::job::Job;
 use processor::processor::Processor;
+use queue::standing::Standing;
 
 // The speed of the last step.
 fn top_speed<P: Processor>(processor: &P) -> u64
@@ -16,19 +15,16 @@ fn top_speed<P: Processor>(processor: &P) -> u64
 
 // The first job that ends a run with more work than top speed × (its deadline − the first arrival of the run), if one does.
 // Each end is tried with the runs to it from the shortest on, so that each adds one work to the load.
-pub fn want_of_speed<P: Processor>(processor: &P, jobs: &[Job]) -> Option<usize>
-    requires order { standing jobs.now ≡ true }
-    requires few { length jobs.now ≤ 256 }
-    ensures { result ≡ wanted (P.Processor.steps processor.now) jobs.now }
+pub fn want_of_speed<P: Processor>(processor: &P, standing: Standing<'_>) -> Option<usize>
+    ensures { result ≡ wanted (P.Processor.steps processor.now) standing.entry.jobs.now }
 {
     let top = top_speed(processor);
     let mut found = None;
-    'search: for j in 0..jobs.len() {
-        let deadline = jobs[j].deadline;
+    'search: for (j, last) in standing.jobs.iter().enumerate() {
         let mut load = 0;
-        for i in (0..j + 1).rev() {
-            load += jobs[i].work;
-            if top * (deadline - jobs[i].arrival) < load {
+        for first in standing.jobs[..j + 1].iter().rev() {
+            load += first.work;
+            if top * (last.deadline - first.arrival) < load {
                 found = Some(j);
                 break 'search;
             }
