@@ -1,10 +1,14 @@
 -- Rows of a table read and written: a row is the energy of the record at its place.
-use Rattle.std.proofs.Common.{◌≡◌, ℕ, ◌+◌, ◌<◌, ◌≤◌, cond, eqb, List, map, length, get_or, set, sym, ap, ◌∙◌, inl, inr, add-one, arith}
+use Rattle.std.proofs.Common.{◌≡◌, ℕ, ◌+◌, ◌<◌, cond, eqb, ltb, leb, List, [], ◌∷◌, map, length, get_or, set, sym, refl, ap, ◌∙◌, inl, inr, Option, Some, None, Bor, arith}
 use lib.ListN.{get_or-map}
 use Rattle.std.proofs.lemmas.List.{length-map, map-set, get_or-set_same, get_or-set_other}
-use Rattle.std.proofs.lemmas.Bool.{cases_eq, cond-true, cond-false, eq-eqb, ne_eqb}
+use Rattle.std.proofs.lemmas.Bool.{cases_eq, cond-true, cond-false, eq-eqb, ne_eqb, le-leb, lt-leb, ltb-true, ltb-false}
+use Rattle.std.proofs.lemmas.List.Sums.{sum_by-cons}
+use Rattle.std.specs.Option.{option_map, is_some, unwrap_or}
 use Rattle.model.specs.Sums.{sum_to}
-use Rattle.model.proofs.Sums.{sum_to_suc, sum_to_longer}
+use Rattle.model.proofs.Sums.{sum_to_cong}
+use Rattle.theory.proofs.Walls.{sum_to_first}
+use Rattle.std.specs.List.{sum_by}
 use Rattle.charges.specs.declared.charges.Charge.{Charge}
 use Rattle.charges.specs.declared.charges.Charges.{Charges}
 use Rattle.charges.specs.Rows.{rows_of}
@@ -46,16 +50,28 @@ raised rows after x by l e a =
           omega arith
     ]
 
--- one row more in a sum of rows, which stays below the sum of all
-pub sum_more : (c : Charges) (a s : ℕ) → s ≡ sum_to a (λ x. get_or (rows_of c) x 0) → s + (get_or c.rows a no_charge).energy ≡ sum_to (a + 1) (λ x. get_or (rows_of c) x 0)
-sum_more c a s e =
-    let r = row_at c a in
-    let f = sum_to_suc a (λ x. get_or (rows_of c) x 0) in
-    let g = ap (λ (n : ℕ). sum_to n (λ x. get_or (rows_of c) x 0)) (add-one a) in
-    omega arith
+-- a sum over a list, place by place
+sum_by_places : {X : Type 0} (f : X → ℕ) (d : X) (xs : List X) → sum_by f xs ≡ sum_to (length xs) (λ i. f (get_or xs i d))
+unfolding sum_to
+sum_by_places f d [] = refl
+sum_by_places f d (x ∷ xs) =
+    sum_by-cons f x xs ∙ (ap (λ (n : ℕ). f x + n) (sum_by_places f d xs) ∙ sym (sum_to_first (length xs) (λ i. f (get_or (x ∷ xs) i d))))
 
-pub sum_within : (c : Charges) (a s : ℕ) → a < 65 → s ≡ sum_to a (λ x. get_or (rows_of c) x 0) → s + (get_or c.rows a no_charge).energy ≤ sum_to 65 (λ x. get_or (rows_of c) x 0)
-sum_within c a s l e =
-    let m = sum_more c a s e in
-    let n = sum_to_longer (a + 1) 65 (λ x. get_or (rows_of c) x 0) (omega arith) in
-    omega arith
+-- the sum of the records is the sum of the rows
+pub rows_sum : (c : Charges) → sum_by (λ (r : Charge). r.energy) c.rows ≡ sum_to 65 (λ a. get_or (rows_of c) a 0)
+rows_sum c =
+    sum_by_places (λ (r : Charge). r.energy) no_charge c.rows
+    ∙ (ap (λ (n : ℕ). sum_to n (λ a. (get_or c.rows a no_charge).energy)) c.full
+    ∙ sum_to_cong 65 (λ a. (get_or c.rows a no_charge).energy) (λ a. get_or (rows_of c) a 0) (λ a l. sym (row_at c a)))
+
+-- a record that is looked up is its row, where there is one
+pub row_found :
+    (c : Charges) (a : ℕ) (o : Option (Bor Charge)) (r : Option ℕ) → is_some o ≡ ltb a (length c.rows)
+    → ((d : Charge) → unwrap_or (option_map (λ x. x.now) o) d ≡ get_or c.rows a d) → r ≡ option_map (λ x. x.now.energy) o
+    → r ≡ cond (leb a 64) (Some (get_or (rows_of c) a 0)) None
+row_found c a None r v u m =
+    m ∙ sym (cond-false (leb a 64) _ _ (lt-leb _ _ (let n = c.full in let l = ltb-false _ _ (sym v) in omega arith)))
+row_found c a (Some x) r v u m =
+    m
+    ∙ (ap Some (ap (λ (y : Charge). y.energy) (u no_charge) ∙ sym (row_at c a))
+    ∙ sym (cond-true (leb a 64) _ _ (le-leb _ _ (let n = c.full in let l = ltb-true _ _ (sym v) in omega arith))))

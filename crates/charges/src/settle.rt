@@ -18,8 +18,7 @@ fn own_ticks(grains: u64, speed: u64, left: u64) -> u64
     requires { (0 < speed) × (speed ≤ 4000) × (grains ≤ 5040000000) }
     ensures { result ≡ min left ((grains + (speed - 1)) / speed) }
 {
-    let within = (grains + (speed - 1)) / speed;
-    if left < within { left } else { within }
+    left.min(grains.div_ceil(speed))
 }
 
 // Charges one segment, from a cursor on, and answers where the cursor then is.
@@ -75,7 +74,7 @@ pub fn settle<P: Processor>(
     ensures all { rows_of charges.new ≡ settled (P.Processor.steps processor.now) jobs.now segments.now (rows_of charges.old) 65 }
 {
     let mut at = Cursor { job: 0, grain: 0 };
-    for k in 0..segments.len() {
-        at = settle_segment(charges, jobs, processor, segments[k], at);
+    for segment in segments {
+        at = settle_segment(charges, jobs, processor, *segment, at);
     }
 }

@@ -5,9 +5,6 @@ ghost use Rattle.model.specs.Sums.{sum_to};
 
 use crate::charges::{Charge, Charges};
 
-// The last account.
-const LAST_ACCOUNT: usize = 64;
-
 impl Charges {
     // A table on which nobody has been charged.
     pub fn new() -> Charges
@@ -22,11 +19,7 @@ impl Charges {
     pub fn charge(&self, account: usize) -> Option<u64>
         ensures { result ≡ (if nat_le account 64 then Some (slice_index (rows_of self.now) account) else None) }
     {
-        if account <= LAST_ACCOUNT {
-            Some(self.rows[account].energy)
-        } else {
-            None
-        }
+        self.rows.get(account).map(|row| row.energy)
     }
 
     // What all accounts and the house have been charged together.
@@ -34,11 +27,7 @@ impl Charges {
         requires { sum_to 65 (λ a. slice_index (rows_of self.now) a) ≤ 4000000000000000000 }
         ensures { result ≡ sum_to 65 (λ a. slice_index (rows_of self.now) a) }
     {
-        let mut sum = 0;
-        for a in 0..65 {
-            sum += self.rows[a].energy;
-        }
-        sum
+        self.rows.iter().map(|row| row.energy).sum()
     }
 
     // Adds to a row.
@@ -47,7 +36,6 @@ impl Charges {
         requires room { slice_index (rows_of self.old) account + by < 2 ^ 64 }
         ensures { rows_of self.new ≡ slice_set (rows_of self.old) account (slice_index (rows_of self.old) account + by) }
     {
-        let energy = self.rows[account].energy + by;
-        self.rows[account] = Charge { energy };
+        self.rows[account].energy += by;
     }
 }

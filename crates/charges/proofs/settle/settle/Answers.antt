@@ -9,25 +9,25 @@ pub settle_segment-at-requires : goal.settle_segment-at-requires
 settle_segment-at-requires g c =
     let steps = g.P.Processor.steps c.args.processor.now in
     let segments = c.args.segments.now in
-    let l = c.loop-k in
+    let l = c.loop-segment in
     record {
       order = c.requires.order;
-      short = ticks_small segments l.k 1008000000 c.loop-k-test.true c.requires.short;
+      short = ticks_small segments l.segment-index 1008000000 c.loop-segment-test.true c.requires.short;
       near = l.invariant.0;
       room = λ a b.
-          room_next steps c.args.jobs.now (rows_of c.args.charges.now) (rows_of l.charges) l.at segments l.k a 4000000000000000000 c.loop-k-test.true (l.invariant.1 a)
+          room_next steps c.args.jobs.now (rows_of c.args.charges.now) (rows_of l.charges) l.at segments l.segment-index a 4000000000000000000 c.loop-segment-test.true (l.invariant.1 a)
           (c.requires.room a b);
     }
 
-pub loop-k-preserved : goal.loop-k-preserved
-loop-k-preserved g c =
+pub loop-segment-preserved : goal.loop-segment-preserved
+loop-segment-preserved g c =
     let steps = g.P.Processor.steps c.args.processor.now in
     let segments = c.args.segments.now in
-    let l = c.loop-k in (
+    let l = c.loop-segment in (
       c.settle_segment-at.ensures.near,
       λ a.
           owing_on steps c.args.jobs.now (rows_of c.args.charges.now) (rows_of l.charges) (rows_of c.settle_segment-at.new.charges) (record { job = 0; grain = 0 }) l.at
-          c.settle_segment-at.result segments l.k a c.loop-k-test.true (l.invariant.1 a) (c.settle_segment-at.ensures.paid (drop (l.k + 1) segments) a),
+          c.settle_segment-at.result segments l.segment-index a c.loop-segment-test.true (l.invariant.1 a) (c.settle_segment-at.ensures.paid (drop (l.segment-index + 1) segments) a),
     )
 
 pub returns : goal.returns
@@ -35,9 +35,9 @@ returns g c =
     let steps = g.P.Processor.steps c.args.processor.now in
     let jobs = c.args.jobs.now in
     let segments = c.args.segments.now in
-    let l = c.loop-k in
+    let l = c.loop-segment in
     let each : (a : ℕ) → get_or (rows_of l.charges) a 0 ≡ get_or (rows_of c.args.charges.now) a 0 + charge steps jobs segments a =
-    λ a. all_paid steps jobs (rows_of c.args.charges.now) (rows_of l.charges) l.at segments l.k a c.loop-k-test.false (l.invariant.1 a)
+    λ a. all_paid steps jobs (rows_of c.args.charges.now) (rows_of l.charges) l.at segments l.segment-index a c.loop-segment-test.false (l.invariant.1 a)
     in
     record {
       each = each;

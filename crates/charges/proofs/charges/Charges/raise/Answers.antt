@@ -3,8 +3,8 @@ use Rattle.charges.specs.Rows.{rows_of}
 use Rattle.charges.proofs.Raised.{no_charge, row_at, row_set}
 use Rattle.charges.proofs.charges.Charges.raise.Goals as goal
 
-pub overflow_add-energy : goal.overflow_add-energy
-overflow_add-energy c = let e = row_at c.args.self.now c.args.account in omega (arith, c.requires.room)
+pub overflow_add-self : goal.overflow_add-self
+overflow_add-self c = let e = row_at c.args.self.now c.args.account in omega (arith, c.requires.room)
 
 pub returns : goal.returns
 unfolding rows_of

@@ -1,14 +1,16 @@
-use Rattle.std.proofs.Common.{get_or, sym, arith}
-use Rattle.model.proofs.Sums.{sum_to_zero}
-use Rattle.charges.specs.Rows.{rows_of}
-use Rattle.charges.proofs.Raised.{sum_more, sum_within}
+use Rattle.std.proofs.Common.{◌≡◌, ◌<◌, ◌^◌, ◌∙◌, arith, rules}
+use Rattle.std.specs.List.{sum_by}
+use Rattle.charges.specs.declared.charges.Charge.{Charge}
+use Rattle.charges.proofs.Raised.{rows_sum}
 use Rattle.charges.proofs.charges.Charges.total.Goals as goal
 
-pub loop-a-init : goal.loop-a-init
-loop-a-init c = sym (sum_to_zero (λ x. get_or (rows_of c.args.self.now) x 0))
+pub sum-requires-clause-fits : goal.sum-requires-clause-fits
+sum-requires-clause-fits c =
+    let e = rows_sum c.args.self.now in
+    let h : sum_by (λ (r : Charge). r.energy) c.args.self.now.rows < 2 ^ 64 = omega (arith, c.requires) in
+    search rules
 
-pub overflow_add-sum : goal.overflow_add-sum
-overflow_add-sum c = let s = sum_within c.args.self.now c.loop-a.a c.loop-a.sum c.loop-a-test.true c.loop-a.invariant in omega (arith, c.requires)
-
-pub loop-a-preserved : goal.loop-a-preserved
-loop-a-preserved c = sum_more c.args.self.now c.loop-a.a c.loop-a.sum c.loop-a.invariant
+pub returns : goal.returns
+returns c =
+    let e : c.sum.result ≡ sum_by (λ (r : Charge). r.energy) c.args.self.now.rows = search rules in
+    e ∙ rows_sum c.args.self.now
