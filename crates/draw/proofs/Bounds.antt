@@ -1,5 +1,5 @@
 -- Bounds that keep the arithmetic of drawing within 64 bits.
-use Rattle.std.proofs.Common.{ℕ, ◌+◌, ◌*◌, ◌/◌, ◌<◌, ◌≤◌, List, [], ◌∷◌, length, ap, inl, inr, mul-le-mul_right, mul-le-mul, mul-le-mul_left, div-mul-le_self, arith}
+use Rattle.std.proofs.Common.{◌≡◌, ℕ, ◌*◌, ◌≤◌, List, [], ◌∷◌, length, ap, inl, inr, mul-le-mul_right, arith}
 use Rattle.std.proofs.lemmas.List.{get_or_past}
 use Rattle.std.proofs.lemmas.Bool.{cases_lt}
 use Rattle.model.specs.Steps.{no_step, speed_at, power_at, Lawful}
@@ -8,22 +8,7 @@ use Rattle.model.specs.Plan.{ticks_of, energy}
 use Rattle.model.specs.declared.segment.Segment.{Segment}
 use Rattle.model.specs.declared.step.Step.{Step}
 
--- the height times the run
-pub height_safe : (a b x y : ℕ) → a ≤ 256000000 → b ≤ 256000000 → x ≤ 200000 → y ≤ 200000 → a * x + b * y ≤ 102400000000000
-height_safe a b x y ha hb hx hy =
-    let p : a * x ≤ 256000000 * 200000 = mul-le-mul ha hx in
-    let q : b * y ≤ 256000000 * 200000 = mul-le-mul hb hy in
-    omega arith
-
--- rounding down to a multiple of g makes nothing larger
-pub round_safe : (h r g : ℕ) → 0 < r → h / (r * g) * g ≤ h
-round_safe h r g r0 =
-    let a = div-mul-le_self h (r * g) in
-    let b : 1 * g ≤ r * g = mul-le-mul_right g r0 in
-    let c = mul-le-mul_left (h / (r * g)) (let d : g ≤ r * g = omega arith in d) in
-    omega arith
-
--- no power is above 1,000,000, and no speed above 4,000
+-- no power is above 1,000,000
 pub power_safe : (steps : List Step) → Lawful steps → (i : ℕ) → power_at steps i ≤ 1000000
 unfolding power_at
 power_safe steps lawful i =
@@ -32,6 +17,11 @@ power_safe steps lawful i =
       | inr l ↦ let e = ap (λ (x : Step). x.power) (get_or_past steps i no_step l) in omega arith
     ]
 
+-- nor does a run cost more than that
+pub cost_safe : (steps : List Step) → Lawful steps → (s : Segment) (w : ℕ) → w ≡ power_at steps s.step → w * s.ticks ≤ 1000000 * s.ticks
+cost_safe steps lawful s w e = let p = power_safe steps lawful s.step in mul-le-mul_right s.ticks (omega arith)
+
+-- no speed is above 4,000
 pub speed_safe : (steps : List Step) → Lawful steps → (i : ℕ) → speed_at steps i ≤ 4000
 unfolding speed_at
 speed_safe steps lawful i =

@@ -1,6 +1,7 @@
 -- The slow step found by climbing: the first step after which the next is faster than the slope.
-use Rattle.std.proofs.Common.{◌≡◌, ℕ, suc, ◌+◌, ◌-◌, ◌*◌, ◌<◌, ◌≤◌, List, length, ap, ◌∙◌, subst, subst₂, inl, inr, add-one, arith}
+use Rattle.std.proofs.Common.{◌≡◌, ℕ, suc, ◌-◌, ◌*◌, ◌<◌, ◌≤◌, List, length, subst₂, inl, inr, Option, None, Some, arith}
 use Rattle.std.proofs.lemmas.Bool.{cases_order, leb-true, leb-false}
+use Rattle.std.specs.Option.{MatchOption, unwrap_or}
 use Rattle.model.specs.Steps.{speed_at, Lawful}
 use Rattle.model.specs.Path.{run, rise}
 use Rattle.model.specs.Plan.{slow_step}
@@ -31,6 +32,13 @@ slow_is steps lawful p q n r s er es b low high =
     (λ k l. subst₂ (λ (x y : ℕ). speed_at steps (suc k) * x ≤ y) er es (low k l))
     (λ l. subst₂ (λ (x y : ℕ). y < speed_at steps (suc n) * x) er es (high l))
 
--- a next step found too fast
-pub faster_next : (steps : List Step) (n v r s : ℕ) → v ≡ speed_at steps (n + 1) → s < v * r → s < speed_at steps (suc n) * r
-faster_next steps n v r s e l = subst (λ (x : ℕ). s < x * r) (e ∙ ap (speed_at steps) (add-one n)) l
+-- the first step whose next is faster, where there is one
+abbrev pub First : List Step → ℕ → ℕ → ℕ → Option ℕ → Type 0
+First steps r s most o = MatchOption o
+    ((k : ℕ) → 0 ≤ k → k < most → speed_at steps (suc k) * r ≤ s)
+    (λ i. (0 ≤ i) × (i < most) × (s < speed_at steps (suc i) * r) × ((k : ℕ) → 0 ≤ k → k < i → speed_at steps (suc k) * r ≤ s))
+
+pub slow_found : (steps : List Step) → Lawful steps → (p q : Point) (o : Option ℕ) (r s most : ℕ) → r ≡ q.time - p.time → s ≡ q.height - p.height → most ≡ length steps - 2
+    → First steps r s most o → unwrap_or o most ≡ slow_step steps (record { from = p; to = q })
+slow_found steps lawful p q None r s most er es em low = slow_is steps lawful p q most r s er es (omega arith) (λ k l. low k (omega arith) l) (λ l. absurd (omega arith))
+slow_found steps lawful p q (Some i) r s most er es em (z, l, high, low) = slow_is steps lawful p q i r s er es (omega arith) (λ k m. low k (omega arith) m) (λ m. high)

@@ -2,7 +2,6 @@ pub mod Adding
 pub mod Climbing
 pub mod Bounds
 pub mod Stretched
-pub mod Pieces
 pub mod Along
 pub mod Riding
 pub mod Going

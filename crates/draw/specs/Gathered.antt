@@ -1,5 +1,5 @@
 -- A plan gathered run by run from the left.
-use Rattle.std.specs.Prelude.{ℕ, ◌+◌, ◌*◌, ◌≤◌, cond, List, [], ◌∷◌, take, ◌==◌}
+use Rattle.std.specs.Prelude.{ℕ, ◌+◌, ◌*◌, ◌≤◌, cond, List, [], ◌∷◌, ◌==◌}
 use Rattle.model.specs.Plan.{segment, ticks_of}
 use Rattle.model.specs.declared.segment.Segment.{Segment}
 use Rattle.draw.specs.declared.drawing.Drawing.{Drawing}
@@ -18,6 +18,6 @@ gathered ns [] = ns
 gathered ns (s ∷ ss) = gathered (added ns s) ss
 
 -- what has been drawn by time t is within its limits
-pub record Within (t : ℕ) (d : Drawing) (out : List Segment) : Type 0 where
-  pub ticks : ticks_of (take d.count out) ≤ 5040 * t
+pub record Within (t : ℕ) (d : Drawing) : Type 0 where
+  pub ticks : ticks_of d.segments.items ≤ 5040 * t
   pub spent : d.energy ≤ 5040000000 * t

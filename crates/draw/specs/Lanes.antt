@@ -1,5 +1,5 @@
 -- Lanes: the straight pieces of a path by number, each with its slower step.
-use Rattle.std.specs.Prelude.{ℕ, zero, suc, ◌-◌, ◌*◌, ◌/◌, ◌<◌, ◌≤◌, List, [], ◌∷◌, slice_index_or}
+use Rattle.std.specs.Prelude.{ℕ, zero, suc, ◌-◌, ◌*◌, ◌/◌, ◌<◌, ◌≤◌, ◌≡◌, List, [], ◌∷◌, slice_index_or}
 use Rattle.model.specs.Steps.{speed_at, gap}
 use Rattle.model.specs.Path.{start, Piece}
 use Rattle.model.specs.Plan.{slow_step, done_at, ticks_between, segment}
@@ -19,16 +19,14 @@ end_at corners k = slice_index_or corners k start
 abbrev pub piece_no : List Point → ℕ → Piece
 piece_no corners k = record { from = begin_at corners k; to = end_at corners k }
 
--- that piece as a lane
-unfoldable pub lane_at : List Step → List Point → ℕ → Lane
-lane_at steps corners k = record {
-  number = k;
-  from = begin_at corners k;
-  to = end_at corners k;
-  slow = slow_step steps (piece_no corners k);
-  speed = speed_at steps (slow_step steps (piece_no corners k));
-  gap = gap steps (slow_step steps (piece_no corners k));
-}
+-- lane l is that piece
+pub record IsLane (steps : List Step) (corners : List Point) (k : ℕ) (l : Lane) : Type 0 where
+  pub number : l.number ≡ k
+  pub from : l.from ≡ begin_at corners k
+  pub to : l.to ≡ end_at corners k
+  pub slow : l.slow ≡ slow_step steps (piece_no corners k)
+  pub speed : l.speed ≡ speed_at steps (slow_step steps (piece_no corners k))
+  pub gap : l.gap ≡ gap steps (slow_step steps (piece_no corners k))
 
 -- the piece of a lane
 abbrev pub line : Lane → Piece
@@ -41,13 +39,9 @@ fast_of l s t = (done_at (line l) l.gap t - done_at (line l) l.gap s - ticks_bet
 unfoldable pub runs_of : Lane → ℕ → ℕ → List Segment
 runs_of l s t = segment l.slow (ticks_between s t - fast_of l s t) ∷ (segment (suc l.slow) (fast_of l s t) ∷ [])
 
--- limits within which the arithmetic on a lane is safe
-pub record Fair (l : Lane) : Type 0 where
-  pub onward : l.from.time < l.to.time
-  pub soon : l.to.time ≤ 200000
-  pub low : l.from.height ≤ 256000000
-  pub high : l.to.height ≤ 256000000
-  pub slower : l.slow < 16
-  pub slow_speed : l.speed ≤ 4000
-  pub some_gap : 0 < l.gap
-  pub least_gap : l.gap ≤ 4000
+-- limits within which the arithmetic on a piece is safe
+pub record Bounded (p : Piece) : Type 0 where
+  pub onward : p.from.time < p.to.time
+  pub soon : p.to.time ≤ 200000
+  pub low : p.from.height ≤ 256000000
+  pub high : p.to.height ≤ 256000000

@@ -4,5 +4,3 @@
 pub mod draw;
 pub mod drawing;
 mod lane;
-mod lanes;
-mod put;

@@ -1,22 +1,53 @@
-use Rattle.std.proofs.Common.{◌≡◌, get_or, ◌∙◌, arith}
-use Rattle.draw.specs.Lanes.{begin_at}
+use Rattle.std.proofs.Common.{◌+◌, ap, add-one, arith}
+use Rattle.model.specs.Steps.{speed_at, gap}
+use Rattle.model.specs.declared.point.Point.{Point}
 use Rattle.theory.proofs.Slow.{slow_known}
-use Rattle.draw.proofs.Pieces.{begin_first, begin_later, lane_is}
+use Rattle.theory.proofs.Tangent.{gap_positive}
+use Rattle.draw.specs.Lanes.{end_at}
+use Rattle.draw.proofs.Bounds.{speed_safe}
 use Rattle.draw.proofs.lane.Lane.at.Goals as goal
-use Rattle.draw.proofs.lane.Lane.at.Goals.{then-number-gt0, else-number-gt0}
 
 pub overflow_add-slow : goal.overflow_add-slow
 overflow_add-slow g c =
     let lawful = g.met.P.Processor.lawful c.args.processor.now in
-    let k = slow_known (g.P.Processor.steps c.args.processor.now) lawful (record { from = c.if-number-gt0.from; to = get_or c.args.corners.now c.args.number (record { time = 0; height = 0 }) }) in
+    let k = slow_known (g.P.Processor.steps c.args.processor.now) lawful (record { from = c.begin_at-from.result; to = end_at c.args.corners.now c.args.number }) in
     omega (arith, lawful.most, c.slow_step-slow.ensures)
 
+pub invariant_of-result : goal.invariant_of-result
+unfolding gap
+invariant_of-result g c =
+    let steps = g.P.Processor.steps c.args.processor.now in
+    let lawful = g.met.P.Processor.lawful c.args.processor.now in
+    let slow = c.slow_step-slow.result in
+    let k = slow_known steps lawful (record { from = c.begin_at-from.result; to = end_at c.args.corners.now c.args.number }) in
+    let piece = c.requires.bounded in
+    let t = ap (λ (p : Point). p.time) c.begin_at-from.ensures in
+    let h = ap (λ (p : Point). p.height) c.begin_at-from.ensures in
+    let v = speed_safe steps lawful slow in
+    let n = speed_safe steps lawful (slow + 1) in
+    let e = ap (speed_at steps) (add-one slow) in
+    let w = gap_positive steps lawful slow (omega (arith, c.slow_step-slow.ensures)) in
+    record {
+      onward = omega arith;
+      soon = piece.soon;
+      low = omega arith;
+      high = piece.high;
+      slower = omega (arith, lawful.most, c.slow_step-slow.ensures);
+      slow_speed = omega (arith, c.speed-speed.ensures);
+      some_gap = omega (arith, c.speed-speed.ensures, c.speed.ensures, c.saturating_sub-gap.ensures);
+      least_gap = omega (arith, c.speed-speed.ensures, c.speed.ensures, c.saturating_sub-gap.ensures);
+    }
+
 pub returns : goal.returns
+unfolding gap
 returns g c =
-    let e : c.if-number-gt0.from ≡ begin_at c.args.corners.now c.args.number = elim c.if-number-gt0.branch [
-      | then-number-gt0 w ↦ w.from-is ∙ begin_later c.args.corners.now c.args.number w.if-number-gt0.true
-      | else-number-gt0 w ↦ w.from-is ∙ begin_first c.args.corners.now c.args.number (omega (arith, w.if-number-gt0.false))
-    ] in
-    lane_is (g.P.Processor.steps c.args.processor.now) c.args.corners.now c.args.number c.if-number-gt0.from
-    c.slow_step-slow.result c.speed-speed.result c.speed.result c.saturating_sub-gap.result
-    e c.slow_step-slow.ensures c.speed-speed.ensures c.speed.ensures c.saturating_sub-gap.ensures
+    let steps = g.P.Processor.steps c.args.processor.now in
+    let e = ap (speed_at steps) (add-one c.slow_step-slow.result) in
+    record {
+      number = cc;
+      from = c.begin_at-from.ensures;
+      to = cc;
+      slow = cc;
+      speed = cc;
+      gap = cc;
+    }
