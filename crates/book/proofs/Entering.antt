@@ -17,7 +17,8 @@ use Rattle.book.specs.Calls.{State, open_line, slip_line, joined_by, standing_wi
 use Rattle.book.specs.Calls.Call.{enters, takes, releases, strikes, plans}
 use Rattle.book.specs.Calls.Answer.{refused, done, planned}
 use Rattle.book.specs.Books.{said, said_plan}
-use Rattle.book.proofs.Promises.{Step, refused_step, accepted_step, not_held}
+use Rattle.book.specs.Spending.{Spends}
+use Rattle.book.proofs.Promises.{Step, step_at, refused_step, accepted_step, not_held}
 
 -- a book with these jobs
 abbrev pub changed : State → List Job → State
@@ -80,32 +81,35 @@ plan_made s steps buffer filled (Ok p) k h e f g =
 plan_made s steps buffer filled (Err w) k h e f g =
     refused_step s (plans steps buffer) (told_of w) k (first_pass (open_line s) (plan_lines steps s.jobs (length buffer)) h ∙ sym e)
 
--- take and release: another book's slip, no open hold, and a slip that is spent
-pub take_foreign : (s : State) (n : ℕ) → (n ≡ s.number → ⊥) → Step s s (takes n) (refused (told 15 0))
-unfolding lines
-take_foreign s n h = refused_step s (takes n) (told 15 0) tt (first_hit (slip_line s n) [] (or_right _ _ (not_from_false _ (ne_eqb _ _ h))))
+-- a slip that is refused: another book's, and one where no hold is open
+pub slip_foreign : (s : State) (n : ℕ) → (n ≡ s.number → ⊥) → first_of (slip_line s n ∷ []) ≡ Some (told 15 0)
+slip_foreign s n h = first_hit (slip_line s n) [] (or_right _ _ (not_from_false _ (ne_eqb _ _ h)))
 
-pub take_nothing : (s : State) (n : ℕ) → is_some s.held ≡ false → Step s s (takes n) (refused (told 15 0))
-unfolding lines
-take_nothing s n h = refused_step s (takes n) (told 15 0) tt (first_hit (slip_line s n) [] (or_left _ _ (not_from_false _ h)))
+pub slip_idle : (s : State) (n : ℕ) → is_some s.held ≡ false → first_of (slip_line s n ∷ []) ≡ Some (told 15 0)
+slip_idle s n h = first_hit (slip_line s n) [] (or_left _ _ (not_from_false _ h))
 
-pub release_foreign : (s : State) (n : ℕ) → (n ≡ s.number → ⊥) → Step s s (releases n) (refused (told 15 0))
+pub take_stopped : (s t : State) (n : ℕ) → t ≡ s → first_of (slip_line s n ∷ []) ≡ Some (told 15 0) → Step s t (takes n) (refused (told 15 0))
 unfolding lines
-release_foreign s n h = refused_step s (releases n) (told 15 0) tt (first_hit (slip_line s n) [] (or_right _ _ (not_from_false _ (ne_eqb _ _ h))))
+take_stopped s t n e f = step_at s s t (takes n) _ _ e refl (refused_step s (takes n) (told 15 0) tt f)
 
-pub release_nothing : (s : State) (n : ℕ) → is_some s.held ≡ false → Step s s (releases n) (refused (told 15 0))
+pub release_stopped : (s t : State) (n : ℕ) → t ≡ s → first_of (slip_line s n ∷ []) ≡ Some (told 15 0) → Step s t (releases n) (refused (told 15 0))
 unfolding lines
-release_nothing s n h = refused_step s (releases n) (told 15 0) tt (first_hit (slip_line s n) [] (or_left _ _ (not_from_false _ h)))
+release_stopped s t n e f = step_at s s t (releases n) _ _ e refl (refused_step s (releases n) (told 15 0) tt f)
 
+-- and one that can be spent
 spendable : (s : State) (n : ℕ) → is_some s.held ≡ true → n ≡ s.number → first_of (slip_line s n ∷ []) ≡ None
 spendable s n h e = first_pass (slip_line s n) [] (or_from _ _ (not_from_true _ h) (not_from_true _ (eq-eqb _ _ e)))
 
-pub take_held : (s : State) (n : ℕ) (j : Job) (js : List Job) → s.held ≡ Some j → n ≡ s.number → js ≡ s.jobs ++ (j ∷ []) → Step s (standing_with s js) (takes n) done
+-- the hold is closed, and its job put last or let go
+pub take_spent : (s t : State) (js : List Job) (n : ℕ) (j : Job) → Spends s n j t → js ≡ t.jobs ++ (j ∷ []) → Step s (changed t js) (takes n) done
 unfolding lines becomes accepts
-take_held s n j js h e f =
-    accepted_step s (standing_with s js) (takes n) done tt (spendable s n (ap (λ (o : Option Job). is_some o) h) e)
-    (ap (λ (w : List Job). standing_with s w) (f ∙ ap (λ (o : Option Job). joined_by s.jobs o) (sym h))) refl
+take_spent s t js n j p f =
+    let h = ap (λ (o : Option Job). is_some o) p.held in
+    accepted_step s (changed t js) (takes n) done tt (spendable s n h p.own)
+    (ap (λ (x : State). changed x js) p.closed
+    ∙ ap (λ (w : List Job). standing_with s w) (f ∙ (ap (λ (x : State). x.jobs ++ (j ∷ [])) p.closed ∙ ap (λ (o : Option Job). joined_by s.jobs o) (sym p.held)))) refl
 
-pub release_held : (s : State) (n : ℕ) → is_some s.held ≡ true → n ≡ s.number → Step s (standing_with s s.jobs) (releases n) done
+pub release_spent : (s t : State) (n : ℕ) (j : Job) → Spends s n j t → Step s t (releases n) done
 unfolding lines becomes accepts
-release_held s n h e = accepted_step s (standing_with s s.jobs) (releases n) done tt (spendable s n h e) refl refl
+release_spent s t n j p =
+    accepted_step s t (releases n) done tt (spendable s n (ap (λ (o : Option Job). is_some o) p.held) p.own) p.closed refl

@@ -2,3 +2,4 @@ pub mod Calls
 pub mod Sound
 pub mod Waits
 pub mod Books
+pub mod Spending

@@ -1,13 +1,15 @@
 // Holding a job at a price, and spending the slip.
-ghost use Rattle.std.specs.Prelude.{◌≡◌, true, false, [], ◌∷◌, ◌++◌, is_some, is_ok, IfOk};
+ghost use Rattle.std.specs.Prelude.{◌≡◌, true, false, [], ◌∷◌, ◌++◌, is_some, is_ok, Some, IfOk, IfErr};
 ghost use Rattle.book.specs.Books.{state, said_price, said_back, handed_back, SoundWith};
-ghost use Rattle.book.specs.Calls.{answer, after, with_job};
+ghost use Rattle.book.specs.Calls.{answer, after, slip_line, with_job};
+ghost use Rattle.book.specs.Spending.{Spends};
 ghost use Rattle.book.specs.Calls.Call.{holds, takes, releases};
 ghost use Rattle.model.specs.Charges.{cost};
 ghost use Rattle.planner.specs.Planning.{want_line};
 ghost use Rattle.queue.specs.Meaning.{jobs_of};
 ghost use Rattle.queue.specs.Queues.{push_lines};
-ghost use Rattle.refusal.specs.Refusals.{outcome, first_of};
+ghost use Rattle.refusal.specs.Refusals.{outcome, first_of, told};
+ghost use Rattle.refusal.specs.declared.refusal.Refusal.TheVariants.{Slip as OtherSlip};
 
 use crate::book::Book;
 use crate::slip::Slip;
@@ -52,6 +54,21 @@ impl Book {
         })
     }
 
+    // Spends the slip and closes the hold, and answers its job; a refused one hands the slip back.
+    fn spend(&mut self, slip: Slip) -> Result<Job, (Slip, Refusal)>
+        ensures spent { IfOk result (λ j. Spends (state self.old) slip.book j (state self.new)) }
+        ensures stopped { IfErr result (λ e. (e ≡ (slip, OtherSlip)) × (self.new ≡ self.old) × (first_of (slip_line (state self.old) slip.book ∷ []) ≡ Some (told 15 0))) }
+    {
+        if slip.book != self.number {
+            return Err((slip, Refusal::Slip));
+        }
+        let Some(job) = self.held.take() else {
+            return Err((slip, Refusal::Slip));
+        };
+        let Slip { book: _, price: _ } = slip;
+        Ok(job)
+    }
+
     // Spends the slip and puts the held job at the end; a refused one hands the slip back.
     pub fn take(&mut self, slip: Slip) -> Result<(), (Slip, Refusal)>
         ensures answer { said_back result ≡ answer (state self.old) (takes slip.book) }
@@ -60,14 +77,7 @@ impl Book {
         ensures spends { is_some (state self.old).held ≡ true → slip.book ≡ (state self.old).number → is_ok result ≡ true }
         ensures sound { SoundWith (state self.old) (state self.new) (takes slip.book) }
     {
-        if slip.book != self.number {
-            return Err((slip, Refusal::Slip));
-        }
-        let Some(job) = self.held else {
-            return Err((slip, Refusal::Slip));
-        };
-        let Slip { book: _, price: _ } = slip;
-        self.held = None;
+        let job = self.spend(slip)?;
         match self.queue.push(job) {
             Ok(()) => Ok(()),
             Err(_) => unreachable(),
@@ -82,14 +92,7 @@ impl Book {
         ensures spends { is_some (state self.old).held ≡ true → slip.book ≡ (state self.old).number → is_ok result ≡ true }
         ensures sound { SoundWith (state self.old) (state self.new) (releases slip.book) }
     {
-        if slip.book != self.number {
-            return Err((slip, Refusal::Slip));
-        }
-        if self.held.is_none() {
-            return Err((slip, Refusal::Slip));
-        }
-        let Slip { book: _, price: _ } = slip;
-        self.held = None;
+        self.spend(slip)?;
         Ok(())
     }
 }

@@ -13,10 +13,7 @@ impl Book {
         ensures answer { outcome result ≡ first_of (line (nat_lt 64 account) 12 0 ∷ []) }
         ensures figure { IfOk result (λ e. e ≡ slice_index (state self.now).charges account) }
     {
-        match self.charges.charge(account) {
-            Some(energy) => Ok(energy),
-            None => Err(Refusal::Account),
-        }
+        self.charges.charge(account).ok_or(Refusal::Account)
     }
 
     // How many jobs stand; a held job is not counted.

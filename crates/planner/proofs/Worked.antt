@@ -1,7 +1,5 @@
 -- Working out a plan: what the search, the survey, the sweep and the drawing come to together.
-use Rattle.std.proofs.Common.{◌≡◌, ℕ, suc, ◌+◌, ◌-◌, ◌<◌, ◌≤◌, true, false, List, [], ◌∷◌, length, take, is_some, Some, None, Option, sym, ap, ◌∙◌, subst, inl, inr, add-one, arith}
-use native.Mathlib.Nat.{sub-zero}
-use Rattle.std.proofs.lemmas.List.{length-take}
+use Rattle.std.proofs.Common.{◌≡◌, ℕ, suc, ◌+◌, ◌<◌, true, false, List, [], ◌∷◌, length, is_some, Some, None, Option, sym, ap, ◌∙◌, subst, inl, inr, add-one, arith}
 use Rattle.std.proofs.lemmas.Bool.{cases_Bool, cond-true, cond-false, true≢false, ltb-true}
 use Rattle.model.specs.Steps.{Lawful}
 use Rattle.model.specs.Jobs.{Ordered}
@@ -60,15 +58,9 @@ none_found steps jobs e =
 pub none_accepted : (steps : List Step) (jobs : List Job) → want steps jobs ≡ false → None ≡ first_of (want_line steps jobs ∷ [])
 none_accepted steps jobs h = sym (first_pass (want_line steps jobs) [] h)
 
--- the cuts as they are lent on
-pub lent_cuts : (jobs : List Job) (out : List Cut) (n : ℕ) → take n out ≡ survey jobs → take (n - 0) out ≡ survey jobs
-lent_cuts jobs out n e = ap (λ (m : ℕ). take m out) (sub-zero n) ∙ e
-
-pub lent_few : (out : List Cut) (n : ℕ) → n ≤ 513 → length (take (n - 0) out) ≤ 513
-lent_few out n l = let e = length-take (n - 0) out in let s = sub-zero n in omega arith
-
-pub lent_rising : (jobs : List Job) (cuts : List Cut) → cuts ≡ survey jobs → Rising cuts
-lent_rising jobs cuts e = subst (λ (xs : List Cut). Rising xs) (sym e) (survey_rising jobs)
+-- the cuts rise
+pub cuts_rising : (jobs : List Job) (cuts : List Cut) → cuts ≡ survey jobs → Rising cuts
+cuts_rising jobs cuts e = subst (λ (xs : List Cut). Rising xs) (sym e) (survey_rising jobs)
 
 -- the corners are those of the jobs' sweep
 pub corners_are : (jobs : List Job) (cuts : List Cut) (corners : List Point) → Ordered jobs → cuts ≡ survey jobs → corners ≡ swept cuts → corners ≡ sweep jobs

@@ -1,8 +1,8 @@
 -- What a draft means: its segments.
-use Rattle.std.specs.Prelude.{List, take}
+use Rattle.std.specs.Prelude.{List}
 use Rattle.model.specs.declared.segment.Segment.{Segment}
 use Rattle.planner.specs.declared.draft.Draft.{Draft}
 
 -- the segments of a draft
 abbrev pub segments_of : Draft → List Segment
-segments_of d = take d.count d.segments
+segments_of d = d.drawing.segments.items

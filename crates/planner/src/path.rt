@@ -5,7 +5,6 @@ ghost use Rattle.queue.specs.Meaning.{jobs_of};
 ghost use Rattle.sweep.specs.Views.{view};
 ghost use Rattle.theory.specs.Sweep.{sweep};
 
-use model::cut::Cut;
 use queue::queue::Queue;
 use survey::merge::survey;
 use sweep::chain::Chain;
@@ -16,16 +15,8 @@ pub fn path(queue: &Queue) -> Chain
     ensures corners { view result ≡ sweep (jobs_of queue.now) }
     ensures law { keeps (jobs_of queue.now) (view result) ≡ true }
 {
-    let jobs = queue.jobs();
-    let mut cuts = [Cut {
-        time: 0,
-        upper: 0,
-        lower: 0,
-        rises: false,
-        falls: false,
-    }; 513];
-    let n = survey(jobs, &mut cuts);
+    let cuts = survey(queue.standing());
     let mut corners = Chain::new();
-    sweep(&cuts[0..n], &mut corners);
+    sweep(&cuts, &mut corners);
     corners
 }

@@ -32,14 +32,14 @@ pub fn plan<P: Processor>(
 {
     let mut draft = Draft::blank();
     draft.work_out(queue, processor)?;
-    let segments = draft.count;
+    let segments = draft.segments().len();
     if buffer.len() < segments {
         return Err(Refusal::Room { segments });
     }
-    buffer[0..segments].copy_from_slice(draft.segments());
+    buffer[..segments].copy_from_slice(draft.segments());
     Ok(Planned {
         segments,
-        energy: draft.energy,
+        energy: draft.energy(),
     })
 }
 
@@ -51,5 +51,5 @@ pub fn least_energy<P: Processor>(queue: &Queue, processor: &P) -> Result<u64, R
 {
     let mut draft = Draft::blank();
     draft.work_out(queue, processor)?;
-    Ok(draft.energy)
+    Ok(draft.energy())
 }

@@ -1,5 +1,5 @@
 // Working out the plan of a queue.
-ghost use Rattle.std.specs.Prelude.{◌≡◌, [], ◌∷◌, length, MatchResult};
+ghost use Rattle.std.specs.Prelude.{◌≡◌, [], ◌∷◌, MatchResult};
 ghost use Rattle.model.specs.Charges.{cost};
 ghost use Rattle.model.specs.Plan.{plan};
 ghost use Rattle.planner.specs.Drafts.{segments_of};
@@ -8,8 +8,9 @@ ghost use Rattle.queue.specs.Meaning.{jobs_of};
 ghost use Rattle.refusal.specs.Refusals.{outcome, first_of};
 
 use crate::draft::Draft;
+use arrayvec::ArrayVec;
 use draw::draw::draw;
-use model::cut::Cut;
+use draw::drawing::Drawing;
 use model::segment::Segment;
 use processor::processor::Processor;
 use queue::queue::Queue;
@@ -23,44 +24,30 @@ impl Draft {
     // A draft without segments.
     pub fn blank() -> Draft
         ensures made { segments_of result ≡ [] }
-        ensures figure { result.energy ≡ 0 }
+        ensures figure { result.drawing.energy ≡ 0 }
     {
         Draft {
-            segments: [Segment { step: 0, ticks: 0 }; 1024],
-            count: 0,
-            energy: 0,
+            drawing: Drawing {
+                segments: ArrayVec::new(),
+                energy: 0,
+            },
         }
     }
 
     // Works out the plan of the queue on a processor, or says for which job speed is wanting; the draft is then as it was.
     pub fn work_out<P: Processor>(&mut self, queue: &Queue, processor: &P) -> Result<(), Refusal>
         ensures answer { outcome result ≡ first_of (want_line (P.Processor.steps processor.now) (jobs_of queue.now) ∷ []) }
-        ensures made { MatchResult result (λ _. (segments_of self.new ≡ plan (P.Processor.steps processor.now) (jobs_of queue.now)) × (self.new.energy ≡ cost (P.Processor.steps processor.now) (jobs_of queue.now))) (λ _. self.new ≡ self.old) }
+        ensures made { MatchResult result (λ _. (segments_of self.new ≡ plan (P.Processor.steps processor.now) (jobs_of queue.now)) × (self.new.drawing.energy ≡ cost (P.Processor.steps processor.now) (jobs_of queue.now))) (λ _. self.new ≡ self.old) }
         ensures worth { Worth (P.Processor.steps processor.now) (jobs_of queue.now) }
     {
-        let jobs = queue.jobs();
-        if let Some(job) = want_of_speed(processor, jobs) {
+        let standing = queue.standing();
+        if let Some(job) = want_of_speed(processor, standing) {
             return Err(Refusal::Want { job: job + 1 });
         }
-        let mut cuts = [Cut {
-            time: 0,
-            upper: 0,
-            lower: 0,
-            rises: false,
-            falls: false,
-        }; 513];
-        let n = survey(jobs, &mut cuts);
+        let cuts = survey(standing);
         let mut corners = Chain::new();
-        sweep(&cuts[0..n], &mut corners);
-        let drawing = draw(
-            processor,
-            jobs,
-            &cuts[0..n],
-            corners.points(),
-            &mut self.segments,
-        );
-        self.count = drawing.count;
-        self.energy = drawing.energy;
+        sweep(&cuts, &mut corners);
+        self.drawing = draw(processor, standing.jobs, &cuts, corners.points());
         Ok(())
     }
 
@@ -68,14 +55,13 @@ impl Draft {
     pub fn segments(&self) -> &[Segment]
         ensures { result.now ≡ segments_of self.now }
     {
-        let count = self.count;
-        &self.segments[0..count]
+        &self.drawing.segments
     }
 
     // The energy of the plan.
     pub fn energy(&self) -> u64
-        ensures { result ≡ self.now.energy }
+        ensures { result ≡ self.now.drawing.energy }
     {
-        self.energy
+        self.drawing.energy
     }
 }

@@ -56,7 +56,7 @@ returns-then-energy-total g c =
     let d = c.in_ok-work_out.ensures in
     let p =
     close_limit s steps (g.met.P.Processor.lawful c.args.processor.now) (sym c.if-is_some.ensures) d.answer
-    (over (sum_to 65 (λ a. get_or (rows_of b.charges) a 0)) c.work_out.new.self.energy c.energy-energy.result (cost steps s.jobs) c.total.result c.total.ensures c.energy-energy.ensures d.made.1 c.if-energy-total.true b.within)
+    (over (sum_to 65 (λ a. get_or (rows_of b.charges) a 0)) c.work_out.new.self.drawing.energy c.energy-energy.result (cost steps s.jobs) c.total.result c.total.ensures c.energy-energy.ensures d.made.1 c.if-energy-total.true b.within)
     in
     record { answer = p.answers; state = p.becoming; sound = p.sounds }
 
@@ -69,7 +69,7 @@ settle-requires g c =
     let st : standing c.jobs.result.now ≡ true = subst (λ (xs : List Job). standing xs ≡ true) (sym j) b.queue.order in
     let e : c.segments.result.now ≡ plan steps c.jobs.result.now = c.segments.ensures ∙ (d.made.0 ∙ ap (λ (xs : List Job). plan steps xs) (sym j)) in
     let u : sum_to 65 (λ a. get_or (rows_of b.charges) a 0) + cost steps (jobs_of b.queue) ≤ charge_limit =
-    under (sum_to 65 (λ a. get_or (rows_of b.charges) a 0)) c.work_out.new.self.energy c.energy-energy.result (cost steps (jobs_of b.queue)) c.total.result c.total.ensures c.energy-energy.ensures d.made.1 c.if-energy-total.false b.within
+    under (sum_to 65 (λ a. get_or (rows_of b.charges) a 0)) c.work_out.new.self.drawing.energy c.energy-energy.result (cost steps (jobs_of b.queue)) c.total.result c.total.ensures c.energy-energy.ensures d.made.1 c.if-energy-total.false b.within
     in
     record {
       order = st;
@@ -89,7 +89,7 @@ invariant_of-self-2 g c =
     let d = c.in_ok-work_out.ensures in
     let r = left_by steps c.jobs.result.now (jobs_of b.queue) c.segments.result.now (rows_of b.charges) (rows_of c.settle.new.charges) c.jobs.ensures (c.segments.ensures ∙ d.made.0) c.settle.ensures.all in
     let u : sum_to 65 (λ a. get_or (rows_of b.charges) a 0) + cost steps (jobs_of b.queue) ≤ charge_limit =
-    under (sum_to 65 (λ a. get_or (rows_of b.charges) a 0)) c.work_out.new.self.energy c.energy-energy.result (cost steps (jobs_of b.queue)) c.total.result c.total.ensures c.energy-energy.ensures d.made.1 c.if-energy-total.false b.within
+    under (sum_to 65 (λ a. get_or (rows_of b.charges) a 0)) c.work_out.new.self.drawing.energy c.energy-energy.result (cost steps (jobs_of b.queue)) c.total.result c.total.ensures c.energy-energy.ensures d.made.1 c.if-energy-total.false b.within
     in record { waits = none_waits _ b.held (sym c.if-is_some.ensures); within = still_within steps (jobs_of b.queue) (rows_of b.charges) (rows_of c.settle.new.charges) b.queue.order r u }
 
 pub returns : goal.returns
@@ -103,7 +103,7 @@ returns g c =
     let left =
     λ (jobs : List Job) (none : jobs ≡ []).
     close_done s steps c.energy-energy.result jobs (rows_of c.settle.new.charges) (g.met.P.Processor.lawful c.args.processor.now) (sym c.if-is_some.ensures) d.answer
-    (under (sum_to 65 (λ a. get_or (rows_of b.charges) a 0)) c.work_out.new.self.energy c.energy-energy.result (cost steps s.jobs) c.total.result c.total.ensures c.energy-energy.ensures d.made.1 c.if-energy-total.false b.within)
+    (under (sum_to 65 (λ a. get_or (rows_of b.charges) a 0)) c.work_out.new.self.drawing.energy c.energy-energy.result (cost steps s.jobs) c.total.result c.total.ensures c.energy-energy.ensures d.made.1 c.if-energy-total.false b.within)
     (c.energy-energy.ensures ∙ d.made.1) none r
     in
     record { answer = (left [] refl).answers; state = (left _ (search rules)).becoming; sound = (left _ (search rules)).sounds }
