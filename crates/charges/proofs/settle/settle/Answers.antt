@@ -1,8 +1,8 @@
-use Rattle.std.proofs.Common.{◌≡◌, ℕ, ◌+◌, get_or, drop}
+use Rattle.std.proofs.Common.{◌≡◌, ℕ, ◌+◌, get_or}
 use Rattle.model.specs.Charges.{charge}
 use Rattle.charges.specs.Rows.{rows_of}
 use Rattle.charges.proofs.Raised.{rows_count}
-use Rattle.charges.proofs.Ends.{ticks_small, room_next, owing_on, all_paid, settled_is}
+use Rattle.charges.proofs.Ends.{ticks_small, room_next, all_paid, settled_is}
 use Rattle.charges.proofs.settle.settle.Goals as goal
 
 pub settle_segment-at-requires : goal.settle_segment-at-requires
@@ -18,17 +18,6 @@ settle_segment-at-requires g c =
           room_next steps c.args.jobs.now (rows_of c.args.charges.now) (rows_of l.charges) l.at segments l.segment-index a 4000000000000000000 c.loop-segment-test.true (l.invariant.1 a)
           (c.requires.room a b);
     }
-
-pub loop-segment-preserved : goal.loop-segment-preserved
-loop-segment-preserved g c =
-    let steps = g.P.Processor.steps c.args.processor.now in
-    let segments = c.args.segments.now in
-    let l = c.loop-segment in (
-      c.settle_segment-at.ensures.near,
-      λ a.
-          owing_on steps c.args.jobs.now (rows_of c.args.charges.now) (rows_of l.charges) (rows_of c.settle_segment-at.new.charges) (record { job = 0; grain = 0 }) l.at
-          c.settle_segment-at.result segments l.segment-index a c.loop-segment-test.true (l.invariant.1 a) (c.settle_segment-at.ensures.paid (drop (l.segment-index + 1) segments) a),
-    )
 
 pub returns : goal.returns
 returns g c =

@@ -1,12 +1,9 @@
-use Rattle.std.proofs.Common.{ℕ, [], refl, ◌∙◌, arith, lit<}
+use Rattle.std.proofs.Common.{ℕ, [], ◌∙◌, arith, lit<}
 use Rattle.model.specs.Jobs.{job_at}
 use Rattle.charges.specs.Rows.{rows_of}
 use Rattle.charges.proofs.Raised.{rows_count}
 use Rattle.charges.proofs.Moves.{speed_small, energy_small, grains_small, account_known, stays_near, owing_whole, owing_none, skip, house_room, house_pays, own_room, own_pays}
 use Rattle.charges.proofs.settle.settle_segment.Goals as goal
-
-pub loop-left-init : goal.loop-left-init
-loop-left-init g c = (c.requires.near, omega arith, λ h ev ew rest a. refl)
 
 pub overflow_mul-power : goal.overflow_mul-power
 overflow_mul-power g c =

@@ -14,9 +14,3 @@ invariant_of-self c =
       room = search rules;
       order = subst (λ (xs : List Job). standing xs ≡ true) (sym c.push_reserved.ensures.items) (standing_with (jobs_of q) c.args.job q.order a);
     }
-
-pub push_reserved-requires : goal.push_reserved-requires
-push_reserved-requires c =
-    let q = c.args.self.now in
-    let a = admitted (jobs_of q) c.args.job c.in_ok-admits.ensures in
-    omega (arith, a.room, q.jobs.ok.0, q.room)

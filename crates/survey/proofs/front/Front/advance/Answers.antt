@@ -2,7 +2,7 @@ use Rattle.std.proofs.Common.{◌≡◌, ℕ, ◌+◌, ap, sym, ◌∙◌, arith
 use Rattle.model.specs.Jobs.{job_at}
 use Rattle.model.specs.declared.job.Job.{Job}
 use Rattle.queue.proofs.Order.{ordered_from}
-use Rattle.survey.proofs.Counted.{rest_at, rest_length, work_small, works_small}
+use Rattle.survey.proofs.Counted.{rest_at, work_small, works_small}
 use Rattle.survey.proofs.Merged.{work_more, front_stops}
 use Rattle.survey.specs.Fronts.{time_of}
 use Rattle.survey.specs.Moments.{is_arrival}
@@ -50,12 +50,3 @@ loop-job-preserved c =
     let x = ap (λ (j : Job). j.work) r in
     let t = ap (λ (j : Job). time_of (is_arrival c.args.moment) j) r in
     (omega arith, ap (λ (y : ℕ). c.loop-job.front.work + y) x ∙ work_more jobs c.loop-job.front.count c.loop-job.front.work w, below_more _ _ p (omega (arith, t, c.of.ensures, c.if-of-t.false)))
-
-pub returns : goal.returns
-returns c =
-    let jobs = c.args.standing.jobs.now in
-    let (n, w, p) = c.loop-job.invariant in
-    let k = rest_length jobs c.args.self.count c.requires.within in
-    let f = c.loop-job-test.false in
-    front_stops (is_arrival c.args.moment) jobs c.args.t c.loop-job.front.count c.loop-job.front.work (ordered_from jobs c.args.standing.order) (omega arith) w p
-    (λ l. absurd (omega arith))
