@@ -1,6 +1,5 @@
 // The sweep along the cuts.
-ghost use Rattle.std.specs.Prelude.{◌≡◌, ℕ, suc, ◌+◌, ◌-◌, ◌*◌, ◌<◌, ◌≤◌, true, false, ◌++◌, length, IfSome};
-ghost use Rattle.model.specs.Path.{start};
+ghost use Rattle.std.specs.Prelude.{◌≡◌, ◌+◌, ◌-◌, ◌<◌, ◌≤◌, true, false, length, IfSome};
 ghost use Rattle.sweep.specs.Ready.{Ready};
 ghost use Rattle.sweep.specs.Swept.{reached, cross, swept, stake_at, Rising};
 ghost use Rattle.sweep.specs.Leaves.{Leaves};

@@ -1,5 +1,5 @@
 // The tightening of a chain: one text for both walls.
-ghost use Rattle.std.specs.Prelude.{◌≡◌, ℕ, suc, ◌+◌, ◌*◌, ◌^◌, ◌<◌, ◌≤◌, true, false, ◌∷◌, length, take, slice_index_or};
+ghost use Rattle.std.specs.Prelude.{◌≡◌, ℕ, suc, ◌*◌, ◌^◌, ◌<◌, ◌≤◌, true, false, ◌∷◌, length, take, slice_index_or};
 ghost use Rattle.model.specs.Path.{run, start};
 ghost use Rattle.sweep.specs.Ready.{Ready};
 ghost use Rattle.sweep.specs.Views.{older, newest};
