@@ -15,8 +15,5 @@ pub fn path(queue: &Queue) -> Chain
     ensures corners { view result ≡ sweep (jobs_of queue.now) }
     ensures law { keeps (jobs_of queue.now) (view result) ≡ true }
 {
-    let cuts = survey(queue.standing());
-    let mut corners = Chain::new();
-    sweep(&cuts, &mut corners);
-    corners
+    sweep(&survey(queue.standing()))
 }

@@ -16,7 +16,6 @@ use processor::processor::Processor;
 use queue::queue::Queue;
 use refusal::refusal::Refusal;
 use survey::merge::survey;
-use sweep::chain::Chain;
 use sweep::sweep::sweep;
 use want::search::want_of_speed;
 
@@ -45,8 +44,7 @@ impl Draft {
             return Err(Refusal::Want { job: job + 1 });
         }
         let cuts = survey(standing);
-        let mut corners = Chain::new();
-        sweep(&cuts, &mut corners);
+        let corners = sweep(&cuts);
         self.drawing = draw(processor, standing.jobs, &cuts, corners.points());
         Ok(())
     }

@@ -1,6 +1,8 @@
 -- One cut, and the sweep along all cuts.
-use Rattle.std.proofs.Common.{◌≡◌, ℕ, ◌<◌, ◌≤◌, Bool, true, false, List, [], ◌∷◌, ◌++◌, length, get_or, drop, sym, refl, ap, ◌∙◌, le_refl, le_of_lt, arith}
+use Rattle.std.proofs.Common.{◌≡◌, ℕ, ◌<◌, ◌≤◌, Bool, true, false, Option, List, [], ◌∷◌, ◌++◌, length, get_or, drop, sym, refl, ap, ◌∙◌, subst, subst₂, le_refl, le_of_lt, arith}
 use Rattle.std.proofs.lemmas.List.{append_assoc}
+use Rattle.std.specs.Bool.{then_some}
+use Rattle.std.specs.Option.{IfSome}
 use Rattle.model.specs.Path.{start}
 use Rattle.model.specs.declared.cut.Cut.{Cut}
 use Rattle.model.specs.declared.point.Point.{Point}
@@ -8,34 +10,50 @@ use Rattle.theory.proofs.Tight.{Bent}
 use Rattle.theory.specs.Sweep.{inner, Funnel}
 use Rattle.sweep.specs.Ready.{Ready}
 use Rattle.sweep.specs.Swept.{no_cut, stake_at, reached, reach_at, cross, swept_from, swept}
+use Rattle.sweep.specs.Leaves.{Leaves}
+use Rattle.sweep.specs.Views.{view}
+use Rattle.sweep.specs.declared.chain.Chain.{Chain}
+use Rattle.sweep.specs.declared.way.Way.{Way}
 use Rattle.sweep.proofs.Taking.{reached_bent}
 
-reached_same : (in-of : ℕ → ℕ → Bool) (b : Bool) (x p q : Point) (u v l m : List Point) → p ≡ q → u ≡ v → l ≡ m → reached in-of b x p u l ≡ reached in-of b x q v m
-reached_same in-of b x p q u v l m e f g =
-    ap (λ (w : Point). reached in-of b x w u l) e ∙ (ap (λ (w : List Point). reached in-of b x q w l) f ∙ ap (λ (w : List Point). reached in-of b x q v w) g)
+-- what holds of the point holds of the one that is put
+of_put : (P : Point → Type 0) (b : Bool) (x : Point) → P x → IfSome (then_some b x) P
+of_put P true x h = h
+of_put P false x h = tt
 
--- what a cut comes to, from where the floor's point left the funnel
-pub cross_is :
-    (c : Cut) (p : Point) (upper lower : List Point) (q : Point) (u l : List Point)
-    → q ≡ (reached (inner false) c.falls (stake_at false c) p lower upper).apex
-    → u ≡ (reached (inner false) c.falls (stake_at false c) p lower upper).other
-    → l ≡ (reached (inner false) c.falls (stake_at false c) p lower upper).own
-    → cross c p upper lower
-    ≡ (let f = reached (inner false) c.falls (stake_at false c) p lower upper in
-    let g = reached (inner true) c.rises (stake_at true c) q u l in
-    record { out = f.out ++ g.out; apex = g.apex; own = g.own; other = g.other })
+-- a cut, step by step: the floor's point, from there the ceiling's
+pub cross_leaves :
+    (c : Cut) (upper lower u l v m : Chain) (way mid new : Way) (a b : Option Point) → a ≡ then_some c.falls (stake_at false c) → b ≡ then_some c.rises (stake_at true c)
+    → Leaves (reached (inner false) a way.apex (view lower) (view upper)) l u way mid → Leaves (reached (inner true) b mid.apex (view u) (view l)) v m mid new
+    → Leaves (cross c way.apex (view upper) (view lower)) v m way new
 unfolding cross reach_at
-cross_is c p upper lower q u l e f h =
-    let was = reached (inner false) c.falls (stake_at false c) p lower upper in
-    ap (λ (g : Funnel). record { out = was.out ++ g.out; apex = g.apex; own = g.own; other = g.other })
-    (sym (reached_same (inner true) c.rises (stake_at true c) q was.apex u was.other l was.own e f h))
+cross_leaves c upper lower u l v m way mid new a b ea eb f g =
+    let was = reached (inner false) a way.apex (view lower) (view upper) in
+    let now = reached (inner true) b mid.apex (view u) (view l) in
+    let p = f.apex in
+    let q = f.own in
+    let r = f.other in
+    let e : cross c way.apex (view upper) (view lower) ≡ record { out = was.out ++ now.out; apex = now.apex; own = now.own; other = now.other } = cc in
+    subst (λ (w : Funnel). Leaves w v m way new) (sym e)
+    (record {
+      apex = g.apex;
+      own = g.own;
+      other = g.other;
+      out = g.out ∙ (ap (λ (w : List Point). w ++ now.out) f.out ∙ append_assoc (view way.corners) was.out now.out);
+    })
 
 -- after the floor's point the upper chain may take in the ceiling's
 pub still_ready :
-    (c : Cut) (p : Point) (upper lower : List Point) → Ready true p upper (stake_at true c) → Ready false p lower (stake_at false c)
-    → Ready true (reached (inner false) c.falls (stake_at false c) p lower upper).apex (reached (inner false) c.falls (stake_at false c) p lower upper).other (stake_at true c)
-still_ready c p upper lower (m, k, b) (n, l, a) =
-    (m, k, (reached_bent false true c.falls n m (stake_at false c) p lower upper l (le_of_lt k) a b).1)
+    (c : Cut) (upper lower u l : Chain) (way mid : Way) (a b : Option Point) → a ≡ then_some c.falls (stake_at false c) → b ≡ then_some c.rises (stake_at true c)
+    → Ready true way.apex (view upper) (stake_at true c) → Ready false way.apex (view lower) (stake_at false c)
+    → Leaves (reached (inner false) a way.apex (view lower) (view upper)) l u way mid → IfSome b (Ready true mid.apex (view u))
+still_ready c upper lower u l way mid a b ea eb (m, k, x) (n, j, y) f =
+    let r : Ready true (reached (inner false) a way.apex (view lower) (view upper)).apex (reached (inner false) a way.apex (view lower) (view upper)).other (stake_at true c) =
+    subst (λ (o : Option Point). Ready true (reached (inner false) o way.apex (view lower) (view upper)).apex (reached (inner false) o way.apex (view lower) (view upper)).other (stake_at true c)) (sym ea)
+    (m, k, (reached_bent false true c.falls n m (stake_at false c) way.apex (view lower) (view upper) j (le_of_lt k) y x).1) in
+    subst (λ (o : Option Point). IfSome o (Ready true mid.apex (view u))) (sym eb)
+    (of_put (Ready true mid.apex (view u)) c.rises (stake_at true c)
+    (subst₂ (λ (q : Point) (w : List Point). Ready true q w (stake_at true c)) (sym f.apex) (sym f.other) r))
 
 -- after a cut both chains are bent up to its time
 pub cross_bent :

@@ -1,10 +1,19 @@
 -- The passing of a chain, step by step. Along the loop, what is put out together with what passing the rest would put out
 -- is what passing the whole puts out; likewise the apex and the rest of the chain.
-use Rattle.std.proofs.Common.{◌≡◌, ℕ, Bool, true, false, List, [], ◌∷◌, ◌++◌, sym, refl, ap, ◌∙◌}
+use Rattle.std.proofs.Common.{◌≡◌, ℕ, Bool, true, false, List, [], ◌∷◌, ◌++◌, drop, slice_get, Option, None, Some, sym, refl, ap, ◌∙◌}
 use Rattle.std.proofs.lemmas.List.{append_assoc, append-nil}
 use Rattle.std.proofs.lemmas.Bool.{cond-true, cond-false}
 use Rattle.model.specs.declared.point.Point.{Point}
 use Rattle.theory.specs.Sweep.{inward, Passed, pass}
+
+-- the first of a list, and the rest
+pub first_is : (xs : List Point) (c : Point) (o : Option Point) → o ≡ slice_get xs 0 → o ≡ Some c → xs ≡ c ∷ drop 1 xs
+first_is [] c o e f = cc
+first_is (x ∷ xs) c o e f = cc
+
+pub first_none : (xs : List Point) (o : Option Point) → o ≡ slice_get xs 0 → o ≡ None → xs ≡ []
+first_none [] o e f = refl
+first_none (x ∷ xs) o e f = cc
 
 -- nothing is left to pass
 pass_end : (in-of : ℕ → ℕ → Bool) (x p : Point) → pass in-of x p [] ≡ record { out = []; apex = p; rest = [] }

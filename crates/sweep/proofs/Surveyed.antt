@@ -1,11 +1,12 @@
 -- The sweep over the surveyed cuts of jobs finds the corners of the jobs' own sweep.
-use Rattle.std.proofs.Common.{◌≡◌, ℕ, zero, suc, true, false, List, [], ◌∷◌, ◌++◌, map, drop, sym, refl, ap, ◌∙◌, subst, arith}
+use Rattle.std.proofs.Common.{◌≡◌, ℕ, zero, suc, Bool, true, false, cond, List, [], ◌∷◌, ◌++◌, map, drop, sym, refl, ap, ◌∙◌, subst, arith}
 use Rattle.std.proofs.lemmas.List.{append_assoc}
+use Rattle.std.specs.Bool.{then_some}
 use Rattle.model.specs.Jobs.{Ordered, cuts, span}
 use Rattle.model.specs.Path.{start, finish}
 use Rattle.model.specs.declared.job.Job.{Job}
 use Rattle.model.specs.declared.point.Point.{Point}
-use Rattle.theory.specs.Sweep.{wall, stake, Funnel, reach, sweep_from, sweep}
+use Rattle.theory.specs.Sweep.{inner, wall, mark, stake, Funnel, take_in, reach, sweep_from, sweep}
 use Rattle.theory.specs.Survey.{cut_of, survey}
 use Rattle.theory.proofs.Cuts.{cuts_rooted, Rises}
 use Rattle.theory.proofs.Levels.{Timely, timely_from}
@@ -14,13 +15,19 @@ use Rattle.theory.proofs.Swept.{Times, finish_is}
 use Rattle.sweep.specs.Swept.{stake_at, reached, reach_at, cross, swept_from, swept, Rising}
 
 -- a wall at a surveyed cut
+reached_put : (in-of : ℕ → ℕ → Bool) (b : Bool) (x p : Point) (own other : List Point)
+    → reached in-of (then_some b x) p own other ≡ cond b (take_in in-of p own other x) (record { out = []; apex = p; own = own; other = other })
+unfolding reached
+reached_put in-of true x p own other = refl
+reached_put in-of false x p own other = refl
+
 reach_floor : (jobs : List Job) (t : ℕ) (p : Point) (own other : List Point) → reach_at false (cut_of jobs t) p own other ≡ reach false jobs t p own other
-unfolding reach_at reached cut_of reach stake wall
-reach_floor jobs t p own other = refl
+unfolding reach_at cut_of reach stake wall
+reach_floor jobs t p own other = reached_put (inner false) (mark false jobs t) (stake false jobs t) p own other
 
 reach_ceiling : (jobs : List Job) (t : ℕ) (p : Point) (own other : List Point) → reach_at true (cut_of jobs t) p own other ≡ reach true jobs t p own other
-unfolding reach_at reached cut_of reach stake wall
-reach_ceiling jobs t p own other = refl
+unfolding reach_at cut_of reach stake wall
+reach_ceiling jobs t p own other = reached_put (inner true) (mark true jobs t) (stake true jobs t) p own other
 
 -- one cut
 crossed :

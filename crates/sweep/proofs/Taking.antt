@@ -1,6 +1,7 @@
 -- A point that comes in, by whether it is then alone in its chain.
-use Rattle.std.proofs.Common.{◌≡◌, ℕ, ◌<◌, ◌≤◌, Bool, true, false, cond, List, [], ◌∷◌, sym, refl, ap, ◌∙◌, arith}
+use Rattle.std.proofs.Common.{◌≡◌, ℕ, ◌<◌, ◌≤◌, Bool, true, false, cond, Option, None, Some, List, [], ◌∷◌, sym, refl, ap, ◌∙◌, arith}
 use Rattle.std.proofs.lemmas.Bool.{cond-true, cond-false, true≢false}
+use Rattle.std.specs.Bool.{then_some}
 use Rattle.model.specs.declared.point.Point.{Point}
 use Rattle.sweep.specs.Swept.{reached}
 use Rattle.theory.proofs.Tight.{Bent, bent_on, take_in_bent}
@@ -38,20 +39,22 @@ pub take_in_more :
 unfolding take_in
 take_in_more in-of p own other x e = cond-false (alone (tighten in-of p own x)) _ _ e
 
--- a wall that puts its point, and one that does not
-pub reached_in : (in-of : ℕ → ℕ → Bool) (puts : Bool) (x p : Point) (own other : List Point) → puts ≡ true → reached in-of puts x p own other ≡ take_in in-of p own other x
+-- a wall that puts a point, and one that does not
+pub reached_some : (in-of : ℕ → ℕ → Bool) (o : Option Point) (x p : Point) (own other : List Point) → o ≡ Some x → reached in-of o p own other ≡ take_in in-of p own other x
 unfolding reached
-reached_in in-of puts x p own other e = cond-true puts _ _ e
+reached_some in-of None x p own other e = cc
+reached_some in-of (Some y) x p own other e = let f : y ≡ x = cc in ap (take_in in-of p own other) f
 
-pub reached_not : (in-of : ℕ → ℕ → Bool) (puts : Bool) (x p : Point) (own other : List Point) → puts ≡ false → reached in-of puts x p own other ≡ record { out = []; apex = p; own = own; other = other }
+pub reached_none : (in-of : ℕ → ℕ → Bool) (o : Option Point) (p : Point) (own other : List Point) → o ≡ None → reached in-of o p own other ≡ record { out = []; apex = p; own = own; other = other }
 unfolding reached
-reached_not in-of puts x p own other e = cond-false puts _ _ e
+reached_none in-of None p own other e = refl
+reached_none in-of (Some y) p own other e = cc
 
 -- both chains stay bent
 pub reached_bent :
     (up dn puts : Bool) (n m : ℕ) (x p : Point) (own other : List Point) → n < x.time → m ≤ x.time → Bent up n p own → Bent dn m p other
-    → Bent up x.time (reached (inner up) puts x p own other).apex (reached (inner up) puts x p own other).own
-    × Bent dn m (reached (inner up) puts x p own other).apex (reached (inner up) puts x p own other).other
+    → Bent up x.time (reached (inner up) (then_some puts x) p own other).apex (reached (inner up) (then_some puts x) p own other).own
+    × Bent dn m (reached (inner up) (then_some puts x) p own other).apex (reached (inner up) (then_some puts x) p own other).other
 unfolding reached
 reached_bent up dn true n m x p own other l k a b = take_in_bent up dn n m p own other x l k a b
 reached_bent up dn false n m x p own other l k a b = (bent_on up n x.time p own (omega arith) a, b)

@@ -1,3 +1,4 @@
 pub mod Views
 pub mod Swept
 pub mod Ready
+pub mod Leaves

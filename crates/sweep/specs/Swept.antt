@@ -1,5 +1,6 @@
 -- The sweep over cuts that bear the heights of the walls, as a program holds them.
-use Rattle.std.specs.Prelude.{ℕ, suc, ◌<◌, Bool, true, false, cond, List, [], ◌∷◌, ◌++◌, length, slice_index_or}
+use Rattle.std.specs.Prelude.{ℕ, suc, ◌<◌, Bool, true, false, Option, None, Some, List, [], ◌∷◌, ◌++◌, length, slice_index_or}
+use Rattle.std.specs.Bool.{then_some}
 use Rattle.model.specs.Path.{start}
 use Rattle.model.specs.declared.cut.Cut.{Cut}
 use Rattle.model.specs.declared.point.Point.{Point}
@@ -18,13 +19,14 @@ abbrev pub marked : Bool → Cut → Bool
 marked true c = c.rises
 marked false c = c.falls
 
--- a wall that may put the point x
-unfoldable pub reached : (ℕ → ℕ → Bool) → Bool → Point → Point → List Point → List Point → Funnel
-reached in-of puts x p own other = cond puts (take_in in-of p own other x) (record { out = []; apex = p; own = own; other = other })
+-- a wall's point comes in, if there is one
+unfoldable pub reached : (ℕ → ℕ → Bool) → Option Point → Point → List Point → List Point → Funnel
+reached in-of None p own other = record { out = []; apex = p; own = own; other = other }
+reached in-of (Some x) p own other = take_in in-of p own other x
 
 -- the sweep gets to a cut, where a wall may put a point
 unfoldable pub reach_at : Bool → Cut → Point → List Point → List Point → Funnel
-reach_at up c p own other = reached (inner up) (marked up c) (stake_at up c) p own other
+reach_at up c p own other = reached (inner up) (then_some (marked up c) (stake_at up c)) p own other
 
 -- one cut: the floor's point, then the ceiling's; what was found at both, and the chains after it, the ceiling's as its own
 unfoldable pub cross : Cut → Point → List Point → List Point → Funnel

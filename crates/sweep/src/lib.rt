@@ -3,7 +3,7 @@
 
 pub mod chain;
 mod pass;
-pub mod store;
 pub mod sweep;
 pub mod tighten;
 pub mod wall;
+mod way;

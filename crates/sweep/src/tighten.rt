@@ -1,7 +1,8 @@
 // The tightening of a chain: one text for both walls.
-ghost use Rattle.std.specs.Prelude.{◌≡◌, ℕ, suc, ◌+◌, ◌*◌, ◌^◌, ◌<◌, ◌≤◌, true, false, ◌∷◌, length, take, slice_index_or};
+ghost use Rattle.std.specs.Prelude.{◌≡◌, ℕ, suc, ◌*◌, ◌^◌, ◌<◌, ◌≤◌, true, false, ◌∷◌, length, take, slice_index_or};
 ghost use Rattle.model.specs.Path.{run, start};
 ghost use Rattle.sweep.specs.Ready.{Ready};
+ghost use Rattle.sweep.specs.Views.{older, newest};
 ghost use Rattle.theory.specs.Sweep.{inner, inward, tighten};
 
 use crate::wall::Wall;
@@ -33,41 +34,41 @@ pub(crate) fn inward<W: Wall>(wall: &W, p: Point, q: Point, r: Point) -> bool
     wall.inner(at_q, at_r)
 }
 
-// The point before place `k` of a chain, the apex before the first.
-fn before(apex: Point, chain: &[Point], k: usize) -> Point
-    requires { k ≤ length chain.now }
-    ensures { result ≡ slice_index_or (apex ∷ chain.now) k start }
+// The point before the next of a chain: the last, or the apex of a chain without points.
+fn before(apex: Point, chain: &[Point]) -> Point
+    ensures { result ≡ slice_index_or (apex ∷ chain.now) (length chain.now) start }
 {
-    if k == 0 { apex } else { chain[k - 1] }
+    chain.last().copied().unwrap_or(apex)
 }
 
-// How many of the first `len` points of a chain stay when `x` is put at its end: from the back, those are dropped that are
-// not inward of `x`, seen from the one before.
-fn kept<W: Wall>(wall: &W, apex: Point, chain: &[Point], len: usize, x: Point) -> usize
-    requires { len ≤ length chain.now }
-    ensures few { result ≤ len }
+// How many points of a chain stay when `x` is put at its end: from the back, those are dropped that are not inward of `x`,
+// seen from the one before.
+fn kept<W: Wall>(wall: &W, apex: Point, chain: &[Point], x: Point) -> usize
+    ensures few { result ≤ length chain.now }
     ensures stays { (i : ℕ) → result ≡ suc i → inward (inner W.Wall.upper) (slice_index_or (apex ∷ chain.now) i start) (slice_index_or chain.now i start) x ≡ true }
-    ensures goes { result < len → inward (inner W.Wall.upper) (slice_index_or (apex ∷ chain.now) result start) (slice_index_or chain.now result start) x ≡ false }
+    ensures goes { result < length chain.now → inward (inner W.Wall.upper) (slice_index_or (apex ∷ chain.now) result start) (slice_index_or chain.now result start) x ≡ false }
 {
-    let mut k = len;
-    while k > 0 {
-        if inward(wall, before(apex, chain, k - 1), chain[k - 1], x) {
-            return k;
+    let mut front = chain;
+    while let [rest @ .., last] = front {
+        if inward(wall, before(apex, rest), *last, x) {
+            return front.len();
         }
-        k -= 1;
+        front = rest;
     }
     0
 }
 
-// Puts `x` at the end of a chain of `len` points from the apex, drops what that makes needless, and answers how many points
-// the chain then has.
-pub fn tighten<W: Wall>(wall: &W, apex: Point, chain: &mut [Point], len: usize, x: Point) -> usize
-    requires room { len < length chain.old }
-    requires bent { Ready W.Wall.upper apex (take len chain.old) x }
-    ensures after { take result chain.new ≡ tighten (inner W.Wall.upper) apex (take len chain.old) x }
-    ensures few { (0 < result) × (result ≤ len + 1) }
+// Drops from a chain what its last point makes needless, seen from the apex: afterwards the chain is the first points, and
+// the answer is how many.
+pub fn tighten<W: Wall>(wall: &W, apex: Point, chain: &mut [Point]) -> usize
+    requires some { 0 < length chain.old }
+    requires bent { Ready W.Wall.upper apex (older chain.old) (newest chain.old) }
+    ensures after { take result chain.new ≡ tighten (inner W.Wall.upper) apex (older chain.old) (newest chain.old) }
+    ensures few { (0 < result) × (result ≤ length chain.old) }
 {
-    let k = kept(wall, apex, chain, len, x);
+    let last = chain.len() - 1;
+    let x = chain[last];
+    let k = kept(wall, apex, &chain[..last], x);
     chain[k] = x;
     k + 1
 }

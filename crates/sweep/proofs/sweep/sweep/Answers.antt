@@ -1,46 +1,65 @@
-use Rattle.std.proofs.Common.{◌≡◌, ℕ, ◌+◌, ◌-◌, List, [], ◌++◌, length, get_or, drop, ◌∙◌, subst, arith}
+use Rattle.std.proofs.Common.{◌≡◌, ◌+◌, ◌-◌, ◌++◌, ◌∷◌, [], true, ℕ, length, get_or, take, drop, ◌∙◌, subst, arith}
 use Rattle.std.proofs.lemmas.List.{drop_all}
-use Rattle.sweep.specs.Swept.{no_cut, swept_from, swept}
-use Rattle.model.specs.declared.point.Point.{Point}
-use Rattle.sweep.specs.Views.{part, view}
-use Rattle.sweep.proofs.Parts.{part_none}
+use Rattle.sweep.specs.Swept.{no_cut, stake_at, swept}
+use Rattle.sweep.specs.Views.{view}
 use Rattle.sweep.proofs.Crossing.{swept_few, swept_end}
-use Rattle.sweep.proofs.Going.{going_start, going_more}
+use Rattle.sweep.proofs.Going.{going_start, going_more, next_later, rest_at, rest_end}
 use Rattle.sweep.proofs.sweep.sweep.Goals as goal
 
-empty : (xs : List Point) (i j : ℕ) → (i ≡ 0) × (j ≡ 0) → part i j xs ≡ []
-empty xs i j (e, f) = part_none xs i j (omega arith)
+pub returns-in_default : goal.returns-in_default
+returns-in_default c = c.new.ensures.points ∙ swept_few c.args.cuts.now (omega arith)
 
-pub returns-then-n-lt2 : goal.returns-then-n-lt2
-returns-then-n-lt2 c = empty c.args.out.now.points c.args.out.now.start c.args.out.now.end c.requires.fresh ∙ swept_few c.args.cuts.now (omega arith)
+pub loop-cut-init : goal.loop-cut-init
+loop-cut-init c = record {
+  going =
+      going_start c.args.cuts.now (view c.new.result) c.default.result (view c.new-upper.result) (view c.new-lower.result) c.in-len2-up.len_at_least
+      c.new.ensures.points c.default.ensures c.new-upper.ensures.points c.new-lower.ensures.points;
+  above = omega (arith, c.new-upper.ensures.places);
+  below = omega (arith, c.new-lower.ensures.places);
+  tally = omega (arith, c.new.ensures.places, c.new-upper.ensures.places, c.new-lower.ensures.places);
+}
 
-pub loop-k-init : goal.loop-k-init
-loop-k-init c =
-    let u = c.new-upper.ensures in
-    let l = c.new-lower.ensures in (
-      going_start c.args.cuts.now (view c.args.out.now) (view c.new-upper.result) (view c.new-lower.result) (omega arith) (empty c.args.out.now.points c.args.out.now.start c.args.out.now.end c.requires.fresh) u.points l.points,
-      omega (arith, u.places),
-      omega (arith, l.places),
-      omega (arith, c.requires.fresh, u.places, l.places),
-    )
+pub cross-requires : goal.cross-requires
+cross-requires c =
+    let i = c.loop-cut.invariant in
+    let k = c.loop-cut.cut-index in
+    let (e, l) = rest_at c.args.cuts.now k c.loop-cut-test.true in
+    let few = c.requires.few in
+    let after = next_later c.args.cuts.now k (get_or (take (length c.args.cuts.now - 1) (drop 1 c.args.cuts.now)) k no_cut) c.requires.rising l e in
+    record {
+      room = (omega arith, omega arith);
+      tally = i.tally;
+      bent = (((get_or c.args.cuts.now k no_cut).time, after, i.going.1), ((get_or c.args.cuts.now k no_cut).time, after, i.going.2));
+    }
 
-pub loop-k-preserved : goal.loop-k-preserved
-loop-k-preserved c =
-    let i = c.loop-k.invariant in
-    let e = c.cross-apex.ensures in
-    let k = c.loop-k.k in (
-      going_more c.args.cuts.now (k - 1) k (k + 1 - 1) (view c.loop-k.out) (view c.cross-apex.new.out) c.loop-k.apex c.cross-apex.result (view c.loop-k.upper) (view c.loop-k.lower)
-          (view c.cross-apex.new.upper) (view c.cross-apex.new.lower) c.requires.rising c.loop-k-test.true (omega (arith, c.loop-k.auto)) (omega arith) i.0 e.out e.apex e.upper e.lower,
-      omega (arith, c.loop-k.auto, i.1, e.places),
-      omega (arith, c.loop-k.auto, i.2, e.places),
-      e.places.3,
-    )
+pub loop-cut-preserved : goal.loop-cut-preserved
+loop-cut-preserved c =
+    let i = c.loop-cut.invariant in
+    let p = c.cross.ensures.places in
+    let (e, l) = rest_at c.args.cuts.now c.loop-cut.cut-index c.loop-cut-test.true in
+    record {
+      going =
+          going_more c.args.cuts.now c.loop-cut.cut-index (get_or (take (length c.args.cuts.now - 1) (drop 1 c.args.cuts.now)) c.loop-cut.cut-index no_cut)
+          c.loop-cut.upper c.loop-cut.lower c.cross.new.upper c.cross.new.lower c.loop-cut.way c.cross.new.way c.requires.rising l e i.going c.cross.ensures.leaves;
+      above = omega arith;
+      below = omega arith;
+      tally = p.3;
+    }
+
+pub put-requires : goal.put-requires
+put-requires c =
+    let i = c.loop-cut.invariant in
+    let u = c.loop-cut.upper.forward in
+    let l = c.loop-cut.lower.forward in
+    let few = c.requires.few in
+    omega arith
 
 pub returns : goal.returns
 returns c =
-    let i = c.loop-k.invariant in
-    let n = length c.args.cuts.now in
-    let e : c.loop-k.k ≡ n = omega (arith, c.loop-k.auto) in
-    swept_end (view c.loop-k.out) (view c.put.new.self) c.loop-k.apex (view c.loop-k.upper) (view c.loop-k.lower) (get_or c.args.cuts.now (n - 1) no_cut) (drop c.loop-k.k c.args.cuts.now) (swept c.args.cuts.now)
-    (subst (λ (m : ℕ). view c.loop-k.out ++ swept_from c.loop-k.apex (view c.loop-k.upper) (view c.loop-k.lower) (get_or c.args.cuts.now (m - 1) no_cut) (drop c.loop-k.k c.args.cuts.now) ≡ swept c.args.cuts.now) e i.0.0)
-    (drop_all c.loop-k.k c.args.cuts.now c.loop-k-test.false) c.put.ensures.points
+    let i = c.loop-cut.invariant in
+    let k = c.loop-cut.cut-index in
+    let e = rest_end c.args.cuts.now k c.in-len2-up.len_at_least c.loop-cut.auto.cut-index-end c.loop-cut-test.false in
+    let two = c.in-len2-up.len_at_least in
+    swept_end (view c.loop-cut.way.corners) (view c.put.new.self) c.loop-cut.way.apex (view c.loop-cut.upper) (view c.loop-cut.lower) (get_or c.args.cuts.now k no_cut)
+    (drop (k + 1) c.args.cuts.now) (swept c.args.cuts.now) i.going.0 (drop_all (k + 1) c.args.cuts.now (omega arith))
+    (subst (λ (j : ℕ). view c.put.new.self ≡ view c.loop-cut.way.corners ++ (stake_at true (get_or c.args.cuts.now j no_cut) ∷ [])) e c.put.ensures.points)
