@@ -12,20 +12,20 @@ use crate::ladder::Ladder;
 use model::step::Step;
 use refusal::refusal::Refusal;
 use refusal::term::Term;
+use std::array;
+
+// What stands in the places past a ladder's steps, and its first step.
+const IDLE: Step = Step { speed: 0, power: 0 };
 
 // A step for each place of two arrays.
 fn pair(speeds: [u64; 16], powers: [u64; 16]) -> [Step; 16]
     ensures value { result ≡ paired speeds powers }
     ensures len { length result ≡ 16 }
 {
-    let mut steps = [Step { speed: 0, power: 0 }; 16];
-    for i in 0..16 {
-        steps[i] = Step {
-            speed: speeds[i],
-            power: powers[i],
-        };
-    }
-    steps
+    array::from_fn(|i| Step {
+        speed: speeds[i],
+        power: powers[i],
+    })
 }
 
 impl Ladder {
@@ -33,7 +33,7 @@ impl Ladder {
     pub fn smallest() -> Ladder
         ensures { ladder_steps result ≡ no_step ∷ (record { speed = 1; power = 0 } ∷ []) }
     {
-        let mut steps = [Step { speed: 0, power: 0 }; 16];
+        let mut steps = [IDLE; 16];
         steps[1] = Step { speed: 1, power: 0 };
         Ladder { steps, count: 2 }
     }
@@ -49,7 +49,7 @@ impl Ladder {
             return Err(Refusal::Count);
         }
         check(steps)?;
-        let mut places = [Step { speed: 0, power: 0 }; 16];
+        let mut places = [IDLE; 16];
         places[..count].copy_from_slice(steps);
         Ok(Ladder {
             steps: places,
