@@ -24,20 +24,15 @@ fn read_figures(heap: Global, text: &str) -> anyhow::Result<Vec<u64>> {
 
 // A ladder with a step for each two figures, its speed and its power.
 fn read_ladder(heap: Global, figures: &[u64]) -> anyhow::Result<Call> {
-    let pairs = figures.chunks_exact(2);
-    if !pairs.remainder().is_empty() {
+    let (pairs, rest) = figures.as_chunks::<2>();
+    if !rest.is_empty() {
         return Err(anyhow!("a step of a ladder has two figures"));
     }
-    let mut steps = Vec::new(heap);
-    for pair in pairs {
-        if let [speed, power] = pair {
-            steps.push(Step {
-                speed: *speed,
-                power: *power,
-            })?;
-        }
-    }
-    Ok(Call::Ladder(steps))
+    let steps = pairs.iter().map(|[speed, power]| Step {
+        speed: *speed,
+        power: *power,
+    });
+    Ok(Call::Ladder(steps.collect(heap)?))
 }
 
 // A job of the first four figures. The fifth is a mark that says nothing to this book.
