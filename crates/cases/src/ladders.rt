@@ -1,4 +1,5 @@
 // Ladders that are taken and ladders that are refused: each limit met, and passed by one.
+use model::step::Step;
 use processor::ladder::Ladder;
 use processor::processor::Processor;
 use refusal::refusal::Refusal;
@@ -12,15 +13,23 @@ fn told(answer: Result<(), Refusal>) -> (u32, usize) {
     }
 }
 
+// A step of this speed and this power.
+fn step(speed: u64, power: u64) -> Step {
+    Step { speed, power }
+}
+
+// What a ladder of exactly these steps is answered.
+fn made(steps: &[Step]) -> (u32, usize) {
+    told(Ladder::of(steps).map(|_| ()))
+}
+
 // What a ladder of these first steps and this count is answered.
 fn tried(steps: &[(u64, u64)], count: usize) -> (u32, usize) {
     let mut speeds = [0; 16];
     let mut powers = [0; 16];
-    for (i, (speed, power)) in steps.iter().enumerate() {
-        if i < 16 {
-            speeds[i] = *speed;
-            powers[i] = *power;
-        }
+    for (i, (speed, power)) in steps.iter().enumerate().take(16) {
+        speeds[i] = *speed;
+        powers[i] = *power;
     }
     let mut ladder = Ladder::smallest();
     told(ladder.fill(speeds, powers, count))
@@ -147,4 +156,37 @@ fn a_refused_ladder_is_unchanged(rt: HostRuntime) -> Result<(), Fail> {
     assert_eq!(rt; ladder.power(1), 3);
     assert_eq!(rt; ladder.speed(2), 0, "a step that it lacks");
     Ok(())
+}
+
+#[test]
+fn slices_of_steps(rt: HostRuntime) -> Result<(), Fail> {
+    let idle = step(0, 0);
+    assert_eq!(rt; made(&[]), (1, 0));
+    assert_eq!(rt; made(&[idle]), (1, 0));
+    assert_eq!(rt; made(&[idle, step(1, 1)]), (0, 0));
+    assert_eq!(rt;
+        made(&EVEN.map(|(speed, power)| step(speed, power))),
+        (0, 0)
+    );
+    assert_eq!(rt; made(&[idle; 17]), (1, 0));
+    assert_eq!(rt; made(&[step(1, 0), step(2, 0)]), (2, 0));
+    assert_eq!(rt; made(&[idle, step(2, 0), step(1, 0)]), (2, 2));
+    assert_eq!(rt; made(&[idle, step(1, 1_000_001)]), (3, 1));
+    assert_eq!(rt; made(&[idle, step(11, 0)]), (4, 1));
+    assert_eq!(rt; made(&[idle, step(1, 5), step(2, 6)]), (5, 2));
+    Ok(())
+}
+
+#[test]
+fn a_ladder_has_its_steps(rt: HostRuntime) -> Result<(), Fail> {
+    match Ladder::of(&[step(0, 10), step(1, 12), step(2, 20), step(4, 60)]) {
+        Ok(ladder) => {
+            assert_eq!(rt; ladder.count(), 4);
+            assert_eq!(rt; ladder.speed(3), 4);
+            assert_eq!(rt; ladder.power(3), 60);
+            assert_eq!(rt; ladder.speed(4), 0, "a step that it lacks");
+            Ok(())
+        }
+        Err(why) => Err(Fail::new(why.number())),
+    }
 }

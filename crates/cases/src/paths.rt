@@ -28,7 +28,7 @@ fn bends_at(rt: &HostRuntime, jobs: &[Job], corners: &[(u32, u32)]) -> Result<()
     let path = path(&queue);
     let found = path.points();
     check(found.len() == corners.len(), "more corners, or fewer")?;
-    for (point, (time, height)) in found.iter().zip(corners.iter()) {
+    for (point, (time, height)) in found.iter().zip(corners) {
         check(point.time == *time, "a corner at another time")?;
         check(point.height == *height, "a corner at another height")?;
     }

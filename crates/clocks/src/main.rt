@@ -3,6 +3,7 @@
 
 use model::job::Job;
 use model::segment::Segment;
+use model::step::Step;
 use planner::path::path;
 use planner::plan::plan;
 use processor::formula::Formula;
@@ -45,11 +46,33 @@ const JOBS: [Job; 5] = [
     },
 ];
 
-// The number and the detail of a refusal.
+// A clock with four working speeds.
+const CLOCK: [Step; 5] = [
+    Step {
+        speed: 0,
+        power: 40,
+    },
+    Step {
+        speed: 630,
+        power: 170,
+    },
+    Step {
+        speed: 1050,
+        power: 400,
+    },
+    Step {
+        speed: 1610,
+        power: 900,
+    },
+    Step {
+        speed: 2030,
+        power: 1600,
+    },
+];
+
+// A refusal.
 fn tell(rt: &impl Print, refusal: Refusal) -> anyhow::Result<()> {
-    let number = refusal.number();
-    let detail = refusal.detail();
-    println!(rt; "refused: {number} ({detail})")?;
+    println!(rt; "refused: {refusal}")?;
     Ok(())
 }
 
@@ -73,7 +96,7 @@ fn show_plan<P: Processor>(
     processor: &P,
 ) -> anyhow::Result<()> {
     println!(rt; "plan on the {name}")?;
-    let mut buffer = [Segment { step: 0, ticks: 0 }; 64];
+    let mut buffer = [Segment::default(); 64];
     match plan(queue, processor, &mut buffer) {
         Ok(planned) => {
             for segment in buffer.iter().take(planned.segments) {
@@ -89,17 +112,6 @@ fn show_plan<P: Processor>(
     }
 }
 
-// A clock with four working speeds.
-fn ladder() -> Result<Ladder, Refusal> {
-    let mut ladder = Ladder::smallest();
-    ladder.fill(
-        [0, 630, 1050, 1610, 2030, 0, 0, 0, 0, 0, 0, 0, 0, 0, 0, 0],
-        [40, 170, 400, 900, 1600, 0, 0, 0, 0, 0, 0, 0, 0, 0, 0, 0],
-        5,
-    )?;
-    Ok(ladder)
-}
-
 fn main(rt: HostRuntime) -> anyhow::Result<()> {
     let mut queue = Queue::new(rt.alloc())?;
     for job in JOBS {
@@ -108,7 +120,7 @@ fn main(rt: HostRuntime) -> anyhow::Result<()> {
         }
     }
     show_path(&rt, &queue)?;
-    match ladder() {
+    match Ladder::of(&CLOCK) {
         Ok(ladder) => show_plan(&rt, "ladder", &queue, &ladder)?,
         Err(why) => tell(&rt, why)?,
     }

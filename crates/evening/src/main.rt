@@ -2,18 +2,46 @@
 // charges.
 #![tactic(auto)]
 
+ghost use Rattle.std.specs.Prelude.{◌≡◌, true, is_some, is_ok};
+ghost use Rattle.book.specs.Books.{state};
+ghost use Rattle.book.specs.declared.slip.Slip.{Slip};
+
 use book::book::Book;
+use book::slip::Slip;
 use model::job::Job;
 use model::segment::Segment;
+use model::step::Step;
 use processor::ladder::Ladder;
 use processor::processor::Processor;
 use refusal::refusal::Refusal;
 
-// The number and the detail of a refusal.
+// A clock with four working speeds.
+const CLOCK: [Step; 5] = [
+    Step {
+        speed: 0,
+        power: 40,
+    },
+    Step {
+        speed: 630,
+        power: 170,
+    },
+    Step {
+        speed: 1050,
+        power: 400,
+    },
+    Step {
+        speed: 1610,
+        power: 900,
+    },
+    Step {
+        speed: 2030,
+        power: 1600,
+    },
+];
+
+// A refusal.
 fn tell(rt: &impl Print, what: &str, refusal: Refusal) -> anyhow::Result<()> {
-    let number = refusal.number();
-    let detail = refusal.detail();
-    println!(rt; "{what}: refused {number} ({detail})")?;
+    println!(rt; "{what}: refused {refusal}")?;
     Ok(())
 }
 
@@ -34,27 +62,25 @@ fn enter(rt: &impl Print, book: &mut Book, job: Job) -> anyhow::Result<()> {
     }
 }
 
-// A job is held; its price is shown, and it is taken or released.
-fn hold(
+// A job is held; its price is shown, and its slip is spent.
+fn hold<F: FnOnce(&mut Book, Slip) -> Result<(), (Slip, Refusal)>>(
     rt: &impl Print,
     book: &mut Book,
     ladder: &Ladder,
     job: Job,
-    keep: bool,
-) -> anyhow::Result<()> {
+    spend: F,
+    what: &str,
+) -> anyhow::Result<()>
+    requires callable { F.IsAlwaysCallable spend }
+    requires spends { (b : _) (s : Slip) (r : _) (a : _) → F.post spend b s r a → is_some (state b.now).held ≡ true → s.book ≡ (state b.now).number → is_ok r ≡ true }
+{
     match book.hold(job, ladder) {
         Ok(slip) => {
             let price = slip.price();
-            let spent = if keep {
-                book.take(slip)
-            } else {
-                book.release(slip)
-            };
-            match spent {
+            match spend(book, slip) {
                 Ok(()) => {}
                 Err((_slip, _why)) => unreachable(),
             }
-            let what = if keep { "taken" } else { "released" };
             println!(rt; "hold: one job more would cost {price}; {what}")?;
             Ok(())
         }
@@ -99,17 +125,6 @@ fn charges(rt: &impl Print, book: &Book) -> anyhow::Result<()> {
     Ok(())
 }
 
-// A clock with four working speeds.
-fn ladder() -> Result<Ladder, Refusal> {
-    let mut ladder = Ladder::smallest();
-    ladder.fill(
-        [0, 630, 1050, 1610, 2030, 0, 0, 0, 0, 0, 0, 0, 0, 0, 0, 0],
-        [40, 170, 400, 900, 1600, 0, 0, 0, 0, 0, 0, 0, 0, 0, 0, 0],
-        5,
-    )?;
-    Ok(ladder)
-}
-
 // The whole evening on one book.
 fn evening(rt: &impl Print, book: &mut Book, ladder: &Ladder) -> anyhow::Result<()> {
     enter(
@@ -142,7 +157,8 @@ fn evening(rt: &impl Print, book: &mut Book, ladder: &Ladder) -> anyhow::Result<
             work: 20000,
             account: 1,
         },
-        true,
+        Book::take,
+        "taken",
     )?;
     hold(
         rt,
@@ -154,7 +170,8 @@ fn evening(rt: &impl Print, book: &mut Book, ladder: &Ladder) -> anyhow::Result<
             work: 9000,
             account: 3,
         },
-        false,
+        Book::release,
+        "released",
     )?;
     enter(
         rt,
@@ -190,10 +207,11 @@ fn evening(rt: &impl Print, book: &mut Book, ladder: &Ladder) -> anyhow::Result<
             work: 30000,
             account: 2,
         },
-        true,
+        Book::take,
+        "taken",
     )?;
-    plan(rt, book, ladder, &mut [Segment { step: 0, ticks: 0 }; 4])?;
-    plan(rt, book, ladder, &mut [Segment { step: 0, ticks: 0 }; 32])?;
+    plan(rt, book, ladder, &mut [Segment::default(); 4])?;
+    plan(rt, book, ladder, &mut [Segment::default(); 32])?;
     match book.close(ladder) {
         Ok(energy) => println!(rt; "close: energy {energy}")?,
         Err(why) => tell(rt, "close", why)?,
@@ -205,7 +223,7 @@ fn evening(rt: &impl Print, book: &mut Book, ladder: &Ladder) -> anyhow::Result<
 
 fn main(rt: HostRuntime) -> anyhow::Result<()> {
     let mut book = Book::new(rt.alloc(), 7)?;
-    match ladder() {
+    match Ladder::of(&CLOCK) {
         Ok(ladder) => evening(&rt, &mut book, &ladder),
         Err(why) => tell(&rt, "ladder", why),
     }

@@ -6,28 +6,31 @@ mod rows;
 
 use crate::canvas::Canvas;
 use crate::rows::Evening;
+use model::job::Job;
 use model::segment::Segment;
 use planner::path::path;
 use planner::plan::plan;
 use processor::processor::Processor;
 use std::io::Read;
 
-// One wall: it steps up by each job's work, at its arrival or at its deadline.
-fn draw_wall(
+// One wall: it steps up by each job's work, at a time of the job.
+fn draw_wall<F: Fn(&Job) -> u64>(
     rt: &impl Print,
     canvas: &Canvas,
     evening: &Evening,
-    ceiling: bool,
-) -> anyhow::Result<()> {
-    let class = if ceiling { "ceiling" } else { "floor" };
+    class: &str,
+    time: F,
+) -> anyhow::Result<()>
+    requires { F.IsAlwaysCallable time }
+{
     print!(rt; "  <polyline class=\"{class}\" points=\"")?;
     canvas.point(rt, 0, 0)?;
     let mut height = 0u64;
     for job in evening.queue.jobs() {
-        let time = if ceiling { job.arrival } else { job.deadline };
-        canvas.point(rt, time, height)?;
+        let at = time(job);
+        canvas.point(rt, at, height)?;
         height = height.saturating_add(job.work);
-        canvas.point(rt, time, height)?;
+        canvas.point(rt, at, height)?;
     }
     canvas.point(rt, canvas.span, height)?;
     println!(rt; "\"/>")?;
@@ -48,7 +51,7 @@ fn draw_path(rt: &impl Print, canvas: &Canvas, evening: &Evening) -> anyhow::Res
 
 // The plan: a bar for each segment, as wide as its ticks and as high as its speed.
 fn draw_plan(rt: &impl Print, canvas: &Canvas, evening: &Evening) -> anyhow::Result<()> {
-    let mut buffer = [Segment { step: 0, ticks: 0 }; 1024];
+    let mut buffer = [Segment::default(); 1024];
     let Ok(planned) = plan(&evening.queue, &evening.ladder, &mut buffer) else {
         return Ok(());
     };
@@ -68,8 +71,8 @@ fn draw_plan(rt: &impl Print, canvas: &Canvas, evening: &Evening) -> anyhow::Res
 fn draw(rt: &impl Print, evening: &Evening) -> anyhow::Result<()> {
     let canvas = Canvas::over(evening);
     canvas.open(rt)?;
-    draw_wall(rt, &canvas, evening, true)?;
-    draw_wall(rt, &canvas, evening, false)?;
+    draw_wall(rt, &canvas, evening, "ceiling", |job| job.arrival)?;
+    draw_wall(rt, &canvas, evening, "floor", |job| job.deadline)?;
     draw_path(rt, &canvas, evening)?;
     draw_plan(rt, &canvas, evening)?;
     println!(rt; "</svg>")?;

@@ -1,60 +1,42 @@
 // The ladder and the jobs of a sheet.
-use grammar::lines::line_end;
+use arrayvec::ArrayVec;
 use grammar::row::Row;
 use grammar::rows::read_row;
+use model::step::Step;
 use processor::ladder::Ladder;
 use queue::queue::Queue;
+use refusal::refusal::Refusal;
 use sheet::drawing::draw;
 use std::alloc::{AllocError, Global};
 
-// The figures of a ladder as far as they are read, and the jobs.
+// The steps of a ladder as far as they are read, the ladder, and the jobs.
 #[derive(Drop)]
 pub(crate) struct Evening {
     pub(crate) ladder: Ladder,
     pub(crate) queue: Queue,
-    speeds: [u64; 16],
-    powers: [u64; 16],
-    count: usize,
+    steps: ArrayVec<Step, 16>,
 }
 
 impl Evening {
-    // Takes a row of an accepted sheet; false where the ladder or the queue would not have it.
-    fn take(&mut self, row: Row) -> bool {
+    // Takes a row of a sheet, or says why the ladder or the queue would not have it.
+    fn take(&mut self, row: Row) -> Result<(), Refusal> {
         match row {
-            Row::Rung(step) => {
-                let count = self.count;
-                if count >= 16 {
-                    return false;
-                }
-                self.speeds[count] = step.speed;
-                self.powers[count] = step.power;
-                self.count = count + 1;
-                true
+            Row::Rung(step) => self.steps.try_push(step).map_err(|_| Refusal::Count),
+            Row::Task(job) => self.queue.push(job),
+            Row::Draw => {
+                self.ladder = Ladder::of(self.steps.as_slice())?;
+                Ok(())
             }
-            Row::Task(job) => self.queue.push(job).is_ok(),
-            Row::Draw => self
-                .ladder
-                .fill(self.speeds, self.powers, self.count)
-                .is_ok(),
         }
     }
 
-    // Takes the rows of an accepted sheet; false where one of them would not be had.
-    fn take_all(&mut self, sheet: &[u8]) -> bool {
-        let mut at = 0;
-        for _ in 0..sheet.len() {
-            let Some(end) = line_end(sheet, at) else {
-                return true;
-            };
-            let Some(row) = read_row(&sheet[at..end]) else {
-                return false;
-            };
-            if !self.take(row) {
-                return false;
-            }
-            at = end + 1;
+    // Takes the rows of a sheet, or nothing where one of them would not be had.
+    fn take_all(&mut self, sheet: &[u8]) -> Option<()> {
+        for line in sheet.split_inclusive(|b| *b == b'\n') {
+            let row = read_row(line.strip_suffix(b"\n")?)?;
+            self.take(row).ok()?;
         }
-        true
+        Some(())
     }
 
     // The ladder and the jobs of a sheet, if it is accepted.
@@ -64,11 +46,9 @@ impl Evening {
         let mut evening = Evening {
             ladder: Ladder::smallest(),
             queue: Queue::new(heap)?,
-            speeds: [0; 16],
-            powers: [0; 16],
-            count: 0,
+            steps: ArrayVec::new(),
         };
-        if drawn.is_err() || !evening.take_all(sheet) {
+        if drawn.is_err() || evening.take_all(sheet).is_none() {
             return Ok(None);
         }
         Ok(Some(evening))

@@ -1,2 +1,4 @@
 pub mod Paired
 pub mod Exact
+pub mod Found
+pub mod Tables

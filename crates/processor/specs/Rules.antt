@@ -1,5 +1,5 @@
 -- Making a ladder: which steps two arrays and a count name, and when they are refused.
-use Rattle.std.specs.Prelude.{ℕ, ◌-◌, ◌*◌, ◌%◌, Bool, cond, not, ◌&&◌, ◌||◌, List, [], ◌∷◌, length, take, Option, ◌==◌, nat_le, nat_lt}
+use Rattle.std.specs.Prelude.{ℕ, ◌-◌, ◌*◌, ◌%◌, Bool, cond, not, ◌&&◌, ◌||◌, List, [], ◌∷◌, length, take, Some, None, Option, ◌==◌, nat_le, nat_lt}
 use Rattle.model.specs.Sums.{first_below}
 use Rattle.model.specs.Steps.{unit, speed_at, power_at, gap, climb}
 use Rattle.model.specs.declared.step.Step.{Step}
@@ -31,6 +31,10 @@ rule_number Bends = 5
 -- the first step at odds with a rule, or the number of steps
 unfoldable pub first_odd : Rule → List Step → ℕ
 first_odd r s = first_below (length s) (odd_at r s)
+
+-- the first step at odds with a rule, where there is one
+unfoldable pub odd_step : Rule → List Step → Option ℕ
+odd_step r s = cond (nat_lt (first_odd r s) (length s)) (Some (first_odd r s)) None
 
 -- a rule is broken by the first step at odds
 unfoldable pub rule_line : Rule → List Step → Line

@@ -1,15 +1,16 @@
 // The rules tried on steps, rule by rule.
 ghost use Rattle.std.specs.Prelude.{◌≡◌, ◌+◌, ◌<◌, length};
 ghost use Rattle.model.specs.Steps.{gap, climb};
-ghost use Rattle.processor.specs.Rules.{odd_at, first_odd, rule_lines};
+ghost use Rattle.processor.specs.Rules.{odd_at, odd_step, rule_number, rule_lines};
 ghost use Rattle.processor.specs.declared.rule.Rule.TheVariants.{Speeds, Powers, Gaps, Bends};
-ghost use Rattle.refusal.specs.Refusals.{outcome, first_of};
+ghost use Rattle.refusal.specs.Refusals.{told, told_of, outcome, first_of};
 
 use crate::rule::Rule;
 use model::step::Step;
 use refusal::refusal::Refusal;
 
 // How much faster the step after `i` is.
+#[tactic(auto, unfolding(model::specs::Steps::gap, model::specs::Steps::speed_at))]
 fn gap(steps: &[Step], i: usize) -> u64
     requires { i + 1 < length steps.now }
     ensures { result ≡ gap steps.now i }
@@ -18,6 +19,7 @@ fn gap(steps: &[Step], i: usize) -> u64
 }
 
 // How much more power the step after `i` takes.
+#[tactic(auto, unfolding(model::specs::Steps::climb, model::specs::Steps::power_at))]
 fn climb(steps: &[Step], i: usize) -> u64
     requires { i + 1 < length steps.now }
     ensures { result ≡ climb steps.now i }
@@ -25,6 +27,7 @@ fn climb(steps: &[Step], i: usize) -> u64
     steps[i + 1].power.saturating_sub(steps[i].power)
 }
 
+#[tactic(auto, using(std::proofs::lemmas::Bool::Decides::nat_tests), unfolding(crate::specs::Rules::odd_at, model::specs::Steps::speed_at))]
 fn odd_speed(steps: &[Step], i: usize) -> bool
     requires { i < length steps.now }
     ensures { result ≡ odd_at Speeds steps.now i }
@@ -36,6 +39,7 @@ fn odd_speed(steps: &[Step], i: usize) -> bool
     speed > 4000 || speed <= steps[i - 1].speed
 }
 
+#[tactic(auto, using(std::proofs::lemmas::Bool::Decides::nat_tests), unfolding(crate::specs::Rules::odd_at, model::specs::Steps::power_at))]
 fn odd_power(steps: &[Step], i: usize) -> bool
     requires { i < length steps.now }
     ensures { result ≡ odd_at Powers steps.now i }
@@ -44,6 +48,7 @@ fn odd_power(steps: &[Step], i: usize) -> bool
     power > 1000000 || (i > 0 && power < steps[i - 1].power)
 }
 
+#[tactic(auto, using(std::proofs::lemmas::Bool::Decides::nat_tests), unfolding(crate::specs::Rules::odd_at))]
 fn odd_gap(steps: &[Step], i: usize) -> bool
     requires { i < length steps.now }
     ensures { result ≡ odd_at Gaps steps.now i }
@@ -55,6 +60,7 @@ fn odd_gap(steps: &[Step], i: usize) -> bool
     gap == 0 || 5040 % gap != 0
 }
 
+#[tactic(auto, using(std::proofs::lemmas::Bool::Decides::nat_tests), unfolding(crate::specs::Rules::odd_at))]
 fn odd_bend(steps: &[Step], i: usize) -> bool
     requires { i < length steps.now }
     ensures { result ≡ odd_at Bends steps.now i }
@@ -81,16 +87,23 @@ impl Rule {
         }
     }
 
-    // The first step at odds with the rule, or the number of steps.
-    fn first_odd(self, steps: &[Step]) -> usize
-        ensures { result ≡ first_odd self steps.now }
+    // The first step at odds with the rule.
+    fn first_odd(self, steps: &[Step]) -> Option<usize>
+        ensures { result ≡ odd_step self steps.now }
     {
-        for i in 0..steps.len() {
-            if self.odd_at(steps, i) {
-                return i;
-            }
+        (0..steps.len()).find(|i| self.odd_at(steps, *i))
+    }
+
+    // The refusal of steps of which this one is at odds with the rule.
+    fn refusal(self, step: usize) -> Refusal
+        ensures { told_of result ≡ told (rule_number self) step }
+    {
+        match self {
+            Rule::Speeds => Refusal::Speed { step },
+            Rule::Powers => Refusal::Power { step },
+            Rule::Gaps => Refusal::Gap { step },
+            Rule::Bends => Refusal::Bend { step },
         }
-        steps.len()
     }
 }
 
@@ -98,21 +111,10 @@ impl Rule {
 pub(crate) fn check(steps: &[Step]) -> Result<(), Refusal>
     ensures { outcome result ≡ first_of (rule_lines steps.now) }
 {
-    let step = Rule::Speeds.first_odd(steps);
-    if step < steps.len() {
-        return Err(Refusal::Speed { step });
-    }
-    let step = Rule::Powers.first_odd(steps);
-    if step < steps.len() {
-        return Err(Refusal::Power { step });
-    }
-    let step = Rule::Gaps.first_odd(steps);
-    if step < steps.len() {
-        return Err(Refusal::Gap { step });
-    }
-    let step = Rule::Bends.first_odd(steps);
-    if step < steps.len() {
-        return Err(Refusal::Bend { step });
+    for rule in [Rule::Speeds, Rule::Powers, Rule::Gaps, Rule::Bends] {
+        if let Some(step) = rule.first_odd(steps) {
+            return Err(rule.refusal(step));
+        }
     }
     Ok(())
 }

@@ -20,11 +20,16 @@ fn show<P: Processor>(rt: &impl Print, name: &str, processor: &P) -> io::Result<
     Ok(())
 }
 
-// The number and the detail of a refusal.
-fn tell(rt: &impl Print, name: &str, refusal: Refusal) -> io::Result<()> {
-    let number = refusal.number();
-    let detail = refusal.detail();
-    println!(rt; "{name} is refused: {number} ({detail})")
+// A processor that was made, or why it was not.
+fn show_made<P: Processor + Drop>(
+    rt: &impl Print,
+    name: &str,
+    made: Result<P, Refusal>,
+) -> io::Result<()> {
+    match made {
+        Ok(processor) => show(rt, name, &processor),
+        Err(why) => println!(rt; "{name} is refused: {why}"),
+    }
 }
 
 // A clock with four working speeds.
@@ -38,19 +43,12 @@ fn figures() -> ([u64; 16], [u64; 16]) {
 fn main(rt: HostRuntime) -> io::Result<()> {
     let mut ladder = Ladder::smallest();
     let (speeds, powers) = figures();
-    match ladder.fill(speeds, powers, 5) {
-        Ok(()) => show(&rt, "ladder", &ladder)?,
-        Err(why) => tell(&rt, "ladder", why)?,
-    }
-    match Formula::new(8, 252, 90, 20, 12) {
-        Ok(formula) => show(&rt, "formula", &formula)?,
-        Err(why) => tell(&rt, "formula", why)?,
-    }
+    let filled = ladder.fill(speeds, powers, 5);
+    show_made(&rt, "ladder", filled.map(|()| ladder))?;
+    show_made(&rt, "formula", Formula::new(8, 252, 90, 20, 12))?;
     let mut speeds = [0; 16];
     speeds[1] = 11;
-    match ladder.fill(speeds, [0; 16], 2) {
-        Ok(()) => show(&rt, "a ladder of speeds 0 and 11", &ladder)?,
-        Err(why) => tell(&rt, "a ladder of speeds 0 and 11", why)?,
-    }
+    let filled = ladder.fill(speeds, [0; 16], 2);
+    show_made(&rt, "a ladder of speeds 0 and 11", filled.map(|()| ladder))?;
     show(&rt, "the lent ladder is as it was", &ladder)
 }

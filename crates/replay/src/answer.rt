@@ -3,62 +3,58 @@ use model::segment::Segment;
 use planner::plan::Planned;
 use refusal::refusal::Refusal;
 use std::alloc::{AllocError, Global};
+use std::fmt;
 
-// An answer: a plain yes; a price, an energy or a number; a plan and its segments; or a refusal.
+// What an accepted call says: a plain yes; a price, an energy or a number; or a plan and its segments.
 #[derive(Drop)]
-pub enum Answer {
+pub enum Said {
     Done,
     Figure(u64),
     Plan(Planned, Vec<Segment>),
-    Refused(Refusal),
 }
 
-// A plan's two figures, and its segments after a colon.
-fn plan_text(heap: Global, planned: Planned, segments: &[Segment]) -> Result<String, AllocError> {
-    let count = planned.segments;
-    let energy = planned.energy;
-    let mut text = format!(in heap; "{count} {energy} :")?;
-    for segment in segments {
-        let step = segment.step;
-        let ticks = segment.ticks;
-        let word = format!(in heap; " {step}:{ticks}")?;
-        text.push_str(word.as_str())?;
+// An answer: what the call says, or why it is refused.
+pub type Answer = Result<Said, Refusal>;
+
+impl From<()> for Said {
+    fn from(_: ()) -> Said {
+        Said::Done
     }
-    Ok(text)
 }
 
-impl Answer {
-    // The answer to a call that gives nothing.
-    pub fn of(res: Result<(), Refusal>) -> Answer {
-        match res {
-            Ok(()) => Answer::Done,
-            Err(why) => Answer::Refused(why),
-        }
+impl From<u64> for Said {
+    fn from(figure: u64) -> Said {
+        Said::Figure(figure)
     }
+}
 
-    // The answer to a call that gives one figure.
-    pub fn of_figure(res: Result<u64, Refusal>) -> Answer {
-        match res {
-            Ok(figure) => Answer::Figure(figure),
-            Err(why) => Answer::Refused(why),
-        }
-    }
-
-    pub fn is_refusal(&self) -> bool {
-        matches!(self, Answer::Refused(_))
-    }
-
-    // The answer as it stands in a list after the equals sign.
-    pub fn text(&self, heap: Global) -> Result<String, AllocError> {
+// As it stands in a list after the equals sign: a plan is its two figures, and its segments after a colon.
+impl fmt::Display for Said {
+    fn fmt<W: fmt::Write>(&self, f: &mut fmt::Formatter<W>) -> fmt::Result {
         match self {
-            Answer::Done => String::from_str(heap, "ok"),
-            Answer::Figure(figure) => format!(in heap; "{figure}"),
-            Answer::Plan(planned, segments) => plan_text(heap, *planned, segments.as_slice()),
-            Answer::Refused(why) => {
-                let number = why.number();
-                let detail = why.detail();
-                format!(in heap; "refused {number} {detail}")
+            Said::Done => write!(f, "ok"),
+            Said::Figure(figure) => write!(f, "{figure}"),
+            Said::Plan(planned, segments) => {
+                let count = planned.segments;
+                let energy = planned.energy;
+                write!(f, "{count} {energy} :")?;
+                for segment in segments {
+                    write!(f, " {segment}")?;
+                }
+                Ok(())
             }
+        }
+    }
+}
+
+// An answer as it stands in a list after the equals sign.
+pub fn text(answer: &Answer, heap: Global) -> Result<String, AllocError> {
+    match answer {
+        Ok(said) => said.to_string(heap),
+        Err(why) => {
+            let number = why.number();
+            let detail = why.detail();
+            format!(in heap; "refused {number} {detail}")
         }
     }
 }

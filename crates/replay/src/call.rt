@@ -1,17 +1,14 @@
 // The calls that a list can hold.
 use model::job::Job;
+use model::step::Step;
 
 // A call, with what it is given. A slip stands as the number of the book that gave it out.
-#[derive(Clone, Copy)]
+#[derive(Drop)]
 pub enum Call {
     // a new book of this number
     Book(u16),
-    // the first `count` places of the two arrays as the processor of later calls
-    Ladder {
-        speeds: [u64; 16],
-        powers: [u64; 16],
-        count: usize,
-    },
+    // a ladder of these steps as the processor of later calls
+    Ladder(Vec<Step>),
     // a formula as the processor of later calls
     Formula {
         count: usize,

@@ -1,5 +1,5 @@
 // The book that calls are replayed on, with what stands beside it.
-use crate::answer::Answer;
+use crate::answer::{Answer, Said};
 use crate::call::Call;
 use crate::keeper::Keeper;
 use crate::machine::Machine;
@@ -40,16 +40,16 @@ impl Desk {
     }
 
     // Puts a new book in the place of the old, whose open hold is released.
-    fn open(&mut self, number: u16) -> Result<Answer, AllocError> {
+    fn open(&mut self, number: u16) -> Result<(), AllocError> {
         let opened = Keeper::new(self.heap, number)?;
         mem::replace(&mut self.keeper, opened).leave();
-        Ok(Answer::Done)
+        Ok(())
     }
 
     // Brings a slip of this number: the one that is kept, or one of another book.
     fn bring(&mut self, number: u16, way: Way) -> anyhow::Result<Answer> {
         let brought = self.keeper.bring(self.heap, number, way)?;
-        Ok(Answer::of(brought))
+        Ok(brought.map(Said::from))
     }
 
     // Plans into this buffer, and answers what stands in it then.
@@ -58,41 +58,35 @@ impl Desk {
             Ok(planned) => {
                 let written = buffer.iter().take(planned.segments);
                 let segments = written.copied().collect(self.heap)?;
-                Ok(Answer::Plan(planned, segments))
+                Ok(Ok(Said::Plan(planned, segments)))
             }
-            Err(why) => Ok(Answer::Refused(why)),
+            Err(why) => Ok(Err(why)),
         }
     }
 
     // Plans into a buffer of the given length.
     fn plan(&self, room: usize) -> anyhow::Result<Answer> {
-        let mut buffer = [Segment { step: 0, ticks: 0 }; 1024];
+        let mut buffer = [Segment::default(); 1024];
         if room > 1024 {
             return Err(anyhow!("a buffer is longer than 1,024 segments"));
         }
         self.plan_into(&mut buffer[0..room])
     }
 
-    // Makes a processor, which stands from now on unless it is refused.
+    // Has a processor stand from now on, unless it is refused.
     fn make(&mut self, made: Result<Machine, Refusal>) -> Answer {
-        match made {
-            Ok(machine) => {
-                self.machine = machine;
-                Answer::Done
-            }
-            Err(why) => Answer::Refused(why),
-        }
+        self.machine = made?;
+        Ok(Said::Done)
     }
 
     // What the book answers to a call.
     pub fn answer(&mut self, call: Call) -> anyhow::Result<Answer> {
         match call {
-            Call::Book(number) => Ok(self.open(number)?),
-            Call::Ladder {
-                speeds,
-                powers,
-                count,
-            } => Ok(self.make(Machine::ladder(speeds, powers, count))),
+            Call::Book(number) => {
+                self.open(number)?;
+                Ok(Ok(Said::Done))
+            }
+            Call::Ladder(steps) => Ok(self.make(Machine::ladder(steps.as_slice()))),
             Call::Formula {
                 count,
                 stride,
@@ -100,15 +94,15 @@ impl Desk {
                 linear,
                 cubic,
             } => Ok(self.make(Machine::formula(count, stride, constant, linear, cubic))),
-            Call::Enter(job) => Ok(Answer::of(self.keeper.enter(job))),
-            Call::Hold(job) => Ok(Answer::of_figure(self.machine.hold(&mut self.keeper, job))),
+            Call::Enter(job) => Ok(self.keeper.enter(job).map(Said::from)),
+            Call::Hold(job) => Ok(self.machine.hold(&mut self.keeper, job).map(Said::from)),
             Call::Take(number) => self.bring(number, Way::Take),
             Call::Release(number) => self.bring(number, Way::Release),
-            Call::Strike => Ok(Answer::of(self.keeper.strike())),
+            Call::Strike => Ok(self.keeper.strike().map(Said::from)),
             Call::Plan(room) => self.plan(room),
-            Call::Close => Ok(Answer::of_figure(self.machine.close(&mut self.keeper))),
-            Call::Charge(account) => Ok(Answer::of_figure(self.keeper.book().charge(account))),
-            Call::Count => Ok(Answer::Figure(self.keeper.book().count() as u64)),
+            Call::Close => Ok(self.machine.close(&mut self.keeper).map(Said::from)),
+            Call::Charge(account) => Ok(self.keeper.book().charge(account).map(Said::from)),
+            Call::Count => Ok(Ok(Said::Figure(self.keeper.book().count() as u64))),
         }
     }
 }

@@ -3,6 +3,7 @@ use crate::keeper::Keeper;
 use book::book::Book;
 use model::job::Job;
 use model::segment::Segment;
+use model::step::Step;
 use planner::plan::Planned;
 use processor::formula::Formula;
 use processor::ladder::Ladder;
@@ -16,11 +17,9 @@ pub enum Machine {
 }
 
 impl Machine {
-    // The ladder of the first `count` places of the two arrays.
-    pub fn ladder(speeds: [u64; 16], powers: [u64; 16], count: usize) -> Result<Machine, Refusal> {
-        let mut ladder = Ladder::smallest();
-        ladder.fill(speeds, powers, count)?;
-        Ok(Machine::Ladder(ladder))
+    // The ladder of these steps.
+    pub fn ladder(steps: &[Step]) -> Result<Machine, Refusal> {
+        Ok(Machine::Ladder(Ladder::of(steps)?))
     }
 
     // The formula of these figures.
@@ -31,8 +30,7 @@ impl Machine {
         linear: u64,
         cubic: u64,
     ) -> Result<Machine, Refusal> {
-        let formula = Formula::new(count, stride, constant, linear, cubic)?;
-        Ok(Machine::Formula(formula))
+        Ok(Machine::Formula(Formula::new(count, stride, constant, linear, cubic)?))
     }
 
     // Holds a job in a book on this processor, and answers the price.

@@ -13,6 +13,7 @@ mod read;
 mod slips;
 mod tally;
 
+use crate::answer::text;
 use crate::desk::Desk;
 use crate::read::{first_word, read};
 use crate::tally::Tally;
@@ -40,12 +41,12 @@ fn replay_line(
     };
     let call = read(rt.alloc(), told)?;
     let answer = desk.answer(call)?;
-    let text = answer.text(rt.alloc())?;
+    let text = text(&answer, rt.alloc())?;
     let met = text.as_str() == expected;
     if !met && tally.missed() < SHOWN {
         show_miss(rt, line, text.as_str())?;
     }
-    tally.note(first_word(told), answer.is_refusal(), met);
+    tally.note(first_word(told), answer.is_err(), met);
     Ok(())
 }
 

@@ -2,6 +2,7 @@
 use crate::call::Call;
 use anyhow::anyhow;
 use model::job::Job;
+use model::step::Step;
 use std::alloc::Global;
 
 // Adds the figures of one word to those before it; a word may hold two, with a colon between them.
@@ -22,21 +23,16 @@ fn read_figures(heap: Global, text: &str) -> anyhow::Result<Vec<u64>> {
 }
 
 // A ladder with a step for each two figures, its speed and its power.
-fn read_ladder(figures: &[u64]) -> anyhow::Result<Call> {
-    if figures.len() % 2 != 0 {
+fn read_ladder(heap: Global, figures: &[u64]) -> anyhow::Result<Call> {
+    let (pairs, rest) = figures.as_chunks::<2>();
+    if !rest.is_empty() {
         return Err(anyhow!("a step of a ladder has two figures"));
     }
-    let mut speeds = [0; 16];
-    let mut powers = [0; 16];
-    for i in 0..16 {
-        speeds[i] = figures.get(2 * i).copied().unwrap_or(0);
-        powers[i] = figures.get(2 * i + 1).copied().unwrap_or(0);
-    }
-    Ok(Call::Ladder {
-        speeds,
-        powers,
-        count: figures.len() / 2,
-    })
+    let steps = pairs.iter().map(|[speed, power]| Step {
+        speed: *speed,
+        power: *power,
+    });
+    Ok(Call::Ladder(steps.collect(heap)?))
 }
 
 // A job of the first four figures. The fifth is a mark that says nothing to this book.
@@ -53,10 +49,10 @@ fn read_job(figures: &[u64]) -> anyhow::Result<Job> {
 }
 
 // The call of this name with these figures.
-fn read_named(name: &str, figures: &[u64]) -> anyhow::Result<Call> {
+fn read_named(heap: Global, name: &str, figures: &[u64]) -> anyhow::Result<Call> {
     match (name, figures) {
         ("book", [number, 0]) => Ok(Call::Book(u16::try_from(*number)?)),
-        ("ladder", _) => read_ladder(figures),
+        ("ladder", _) => read_ladder(heap, figures),
         ("formula", [count, stride, constant, linear, cubic]) => Ok(Call::Formula {
             count: *count as usize,
             stride: *stride,
@@ -85,5 +81,5 @@ pub fn first_word(text: &str) -> &str {
 // The call that is written in a text.
 pub fn read(heap: Global, text: &str) -> anyhow::Result<Call> {
     let figures = read_figures(heap, text)?;
-    read_named(first_word(text), figures.as_slice())
+    read_named(heap, first_word(text), figures.as_slice())
 }

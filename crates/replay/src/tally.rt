@@ -2,7 +2,7 @@
 use std::io;
 
 // The kinds of calls.
-const NAMES: [&str; 12] = [
+const NAMES: [&'static str; 12] = [
     "book", "ladder", "formula", "enter", "hold", "take", "release", "strike", "plan", "close",
     "charge", "count",
 ];
@@ -10,12 +10,23 @@ const NAMES: [&str; 12] = [
 // The calls of one kind, or of all.
 #[derive(Clone, Copy)]
 struct Row {
+    name: &'static str,
     tried: u64,
     refused: u64,
     met: u64,
 }
 
 impl Row {
+    // No calls of this kind.
+    fn new(name: &'static str) -> Row {
+        Row {
+            name,
+            tried: 0,
+            refused: 0,
+            met: 0,
+        }
+    }
+
     // Counts one call.
     fn note(&mut self, refused: bool, met: bool) {
         self.tried = self.tried.saturating_add(1);
@@ -23,7 +34,8 @@ impl Row {
         self.met = self.met.saturating_add(u64::from(met));
     }
 
-    fn show(&self, rt: &impl Print, name: &str) -> io::Result<()> {
+    fn show(&self, rt: &impl Print) -> io::Result<()> {
+        let name = self.name;
         let tried = self.tried;
         let refused = self.refused;
         let met = self.met;
@@ -38,33 +50,18 @@ pub struct Tally {
     all: Row,
 }
 
-// The place of a kind, or 12.
-fn place(name: &str) -> usize {
-    for (i, known) in NAMES.iter().enumerate() {
-        if *known == name {
-            return i;
-        }
-    }
-    NAMES.len()
-}
-
 impl Tally {
     pub fn new() -> Tally {
-        let none = Row {
-            tried: 0,
-            refused: 0,
-            met: 0,
-        };
         Tally {
-            rows: [none; 12],
-            all: none,
+            rows: NAMES.map(Row::new),
+            all: Row::new("all"),
         }
     }
 
     // Counts one call of this kind.
     pub fn note(&mut self, name: &str, refused: bool, met: bool) {
         self.all.note(refused, met);
-        if let Some(row) = self.rows.get_mut(place(name)) {
+        if let Some(row) = self.rows.iter_mut().find(|row| row.name == name) {
             row.note(refused, met);
         }
     }
@@ -77,9 +74,9 @@ impl Tally {
     // The table.
     pub fn show(&self, rt: &impl Print) -> io::Result<()> {
         println!(rt; "call      tried  refused  as expected")?;
-        for (row, name) in self.rows.iter().zip(NAMES.iter()) {
-            row.show(rt, name)?;
+        for row in &self.rows {
+            row.show(rt)?;
         }
-        self.all.show(rt, "all")
+        self.all.show(rt)
     }
 }

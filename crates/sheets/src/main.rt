@@ -14,12 +14,12 @@ struct Count {
     wrong: u32,
 }
 
-// What is printed of a sheet, in a lent buffer; its length.
-fn printed(rt: &HostRuntime, name: &str, out: &mut [u8]) -> anyhow::Result<usize> {
+// What is printed of a sheet, in a lent buffer.
+fn printed<'a>(rt: &HostRuntime, name: &str, out: &'a mut [u8]) -> anyhow::Result<&'a [u8]> {
     let path = format!(in rt.alloc(); "{name}.in")?;
     let sheet = fs::read(rt, path.as_str())?;
     match print_sheet(rt.alloc(), sheet.as_slice(), out)? {
-        Ok(length) => Ok(length.min(out.len())),
+        Ok(length) => Ok(&out[..length]),
         Err(_) => Err(anyhow!("no room for the answer")),
     }
 }
@@ -31,19 +31,13 @@ fn try_sheet(
     out: &mut [u8],
     count: &mut Count,
 ) -> anyhow::Result<()> {
-    let length = printed(rt, name, out)?;
+    let printed = printed(rt, name, out)?;
     let path = format!(in rt.alloc(); "{name}.out")?;
     let recorded = fs::read(rt, path.as_str())?;
-    let mut same = length == recorded.len();
-    for (i, byte) in recorded.iter().enumerate() {
-        if i < out.len() && out[i] != *byte {
-            same = false;
-        }
-    }
-    if !same {
+    if printed != recorded.as_slice() {
         println!(rt; "{name}: another answer than recorded")?;
         count.wrong = count.wrong.saturating_add(1);
-    } else if recorded.first().copied() == Some(b'r') {
+    } else if recorded.as_slice().starts_with(b"r") {
         count.refused = count.refused.saturating_add(1);
     } else {
         count.planned = count.planned.saturating_add(1);

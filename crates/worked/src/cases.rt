@@ -1,25 +1,66 @@
 // The worked cases.
 use model::job::Job;
+use model::step::Step;
 
-// A case: a name that says what it shows, a ladder, jobs, whether a buffer of three segments is tried first (1) or not (0), and
-// jobs whose price is asked.
+// A case: a name that says what it shows, a ladder, jobs, whether a buffer of three segments is tried first, and jobs
+// whose price is asked.
 #[derive(Clone, Copy)]
 pub struct Case {
     pub name: &'static str,
-    pub steps: &'static [(u64, u64)],
+    pub steps: &'static [Step],
     pub jobs: &'static [Job],
-    pub short: u8,
+    pub short: bool,
     pub held: &'static [Job],
 }
 
 // Idle, and one working speed.
-const TWO: [(u64, u64); 2] = [(0, 0), (2, 4)];
+const TWO: [Step; 2] = [Step { speed: 0, power: 0 }, Step { speed: 2, power: 4 }];
 
 // Three working speeds, and power drawn when idle.
-const FOUR: [(u64, u64); 4] = [(0, 10), (1, 12), (2, 20), (4, 60)];
+const FOUR: [Step; 4] = [
+    Step {
+        speed: 0,
+        power: 10,
+    },
+    Step {
+        speed: 1,
+        power: 12,
+    },
+    Step {
+        speed: 2,
+        power: 20,
+    },
+    Step {
+        speed: 4,
+        power: 60,
+    },
+];
 
 // Speeds that share no divisor.
-const ODD: [(u64, u64); 3] = [(0, 0), (7, 7), (11, 19)];
+const ODD: [Step; 3] = [
+    Step { speed: 0, power: 0 },
+    Step { speed: 7, power: 7 },
+    Step {
+        speed: 11,
+        power: 19,
+    },
+];
+
+// A gap that does not divide 5,040.
+pub const GAP: [Step; 2] = [
+    Step { speed: 0, power: 0 },
+    Step {
+        speed: 11,
+        power: 0,
+    },
+];
+
+// A bend the wrong way.
+pub const BEND: [Step; 3] = [
+    Step { speed: 0, power: 0 },
+    Step { speed: 1, power: 5 },
+    Step { speed: 2, power: 6 },
+];
 
 const INNER: [Job; 2] = [
     Job {
@@ -114,56 +155,56 @@ pub const CASES: [Case; 8] = [
         name: "no jobs",
         steps: &FOUR,
         jobs: &[],
-        short: 0,
+        short: false,
         held: &[],
     },
     Case {
         name: "a deadline inside a straight piece",
         steps: &TWO,
         jobs: &INNER,
-        short: 1,
+        short: true,
         held: &[],
     },
     Case {
         name: "a slope between two speeds",
         steps: &FOUR,
         jobs: &BETWEEN,
-        short: 0,
+        short: false,
         held: &ONE_MORE,
     },
     Case {
         name: "a late arrival",
         steps: &FOUR,
         jobs: &LATE,
-        short: 0,
+        short: false,
         held: &[],
     },
     Case {
         name: "more work than the top speed can do",
         steps: &FOUR,
         jobs: &TOO_MUCH,
-        short: 0,
+        short: false,
         held: &[],
     },
     Case {
         name: "an urgent job first",
         steps: &FOUR,
         jobs: &URGENT,
-        short: 0,
+        short: false,
         held: &[],
     },
     Case {
         name: "a cut at no whole number of grains",
         steps: &TWO,
         jobs: &ROUNDED,
-        short: 0,
+        short: false,
         held: &[],
     },
     Case {
         name: "a tick that spans two jobs",
         steps: &ODD,
         jobs: &SHARED,
-        short: 0,
+        short: false,
         held: &[],
     },
 ];

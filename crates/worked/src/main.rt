@@ -2,28 +2,25 @@
 #![tactic(auto)]
 
 mod cases;
-mod steps;
 
-use crate::cases::{CASES, Case};
-use crate::steps::made;
+use crate::cases::{BEND, CASES, Case, GAP};
 use book::book::Book;
 use model::job::Job;
 use model::segment::Segment;
+use model::step::Step;
 use processor::ladder::Ladder;
 use refusal::refusal::Refusal;
 
-// A refusal as its number and its detail.
+// A refusal.
 fn tell(rt: &impl Print, what: &str, refusal: Refusal) -> anyhow::Result<()> {
-    let number = refusal.number();
-    let detail = refusal.detail();
-    println!(rt; "  {what}: refused {number} ({detail})")?;
+    println!(rt; "  {what}: refused {refusal}")?;
     Ok(())
 }
 
 // A ladder that is tried on its own.
-fn try_ladder(rt: &impl Print, name: &str, steps: &[(u64, u64)]) -> anyhow::Result<()> {
+fn try_ladder(rt: &impl Print, name: &str, steps: &[Step]) -> anyhow::Result<()> {
     println!(rt; "{name}")?;
-    match made(steps) {
+    match Ladder::of(steps) {
         Ok(_) => println!(rt; "  ladder: made")?,
         Err(why) => tell(rt, "ladder", why)?,
     }
@@ -58,9 +55,7 @@ fn show_plan(
     match book.plan(ladder, buffer) {
         Ok(planned) => {
             for segment in buffer.iter().take(planned.segments) {
-                let step = segment.step;
-                let ticks = segment.ticks;
-                println!(rt; "  {step}:{ticks}")?;
+                println!(rt; "  {segment}")?;
             }
             let energy = planned.energy;
             println!(rt; "  energy {energy}")?;
@@ -111,12 +106,12 @@ fn try_case(rt: &HostRuntime, case: &Case) -> anyhow::Result<()> {
             tell(rt, "enter", why)?;
         }
     }
-    match made(case.steps) {
+    match Ladder::of(case.steps) {
         Ok(ladder) => {
-            for _ in 0..case.short {
-                show_plan(rt, &book, &ladder, &mut [Segment { step: 0, ticks: 0 }; 3])?;
+            if case.short {
+                show_plan(rt, &book, &ladder, &mut [Segment::default(); 3])?;
             }
-            show_plan(rt, &book, &ladder, &mut [Segment { step: 0, ticks: 0 }; 8])?;
+            show_plan(rt, &book, &ladder, &mut [Segment::default(); 8])?;
             for job in case.held {
                 show_price(rt, &mut book, &ladder, *job)?;
             }
@@ -127,8 +122,8 @@ fn try_case(rt: &HostRuntime, case: &Case) -> anyhow::Result<()> {
 }
 
 fn main(rt: HostRuntime) -> anyhow::Result<()> {
-    try_ladder(&rt, "a gap that does not divide 5,040", &[(0, 0), (11, 0)])?;
-    try_ladder(&rt, "a bend the wrong way", &[(0, 0), (1, 5), (2, 6)])?;
+    try_ladder(&rt, "a gap that does not divide 5,040", &GAP)?;
+    try_ladder(&rt, "a bend the wrong way", &BEND)?;
     try_deadlines(&rt)?;
     for case in CASES.iter() {
         try_case(&rt, case)?;

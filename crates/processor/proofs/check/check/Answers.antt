@@ -1,24 +1,20 @@
-use Rattle.std.proofs.Common.{arith}
-use Rattle.std.proofs.lemmas.Bool.Decides.{nat_tests}
-use Rattle.processor.specs.Rules.{rule_line}
+use Rattle.std.proofs.Common.{List, [], ◌∷◌, Some, sym, ap, ◌∙◌}
+use Rattle.refusal.specs.Refusals.{Told}
+use Rattle.processor.specs.declared.rule.Rule.{Rule}
+use Rattle.processor.specs.declared.rule.Rule.TheVariants.{Speeds, Powers, Gaps, Bends}
+use Rattle.processor.proofs.Tables.{broken, kept}
 use Rattle.processor.proofs.check.check.Goals as goal
 
-pub returns-then-step-steps : goal.returns-then-step-steps
-unfolding rule_line
-returns-then-step-steps c = grind (arith, nat_tests)
+abbrev all : List Rule
+all = Speeds ∷ (Powers ∷ (Gaps ∷ (Bends ∷ [])))
 
-pub returns-then-step-steps-2 : goal.returns-then-step-steps-2
-unfolding rule_line
-returns-then-step-steps-2 c = grind (arith, nat_tests)
+pub returns-in-Some : goal.returns-in-Some
+returns-in-Some c =
+    ap (λ (t : Told). Some t) c.refusal.ensures
+    ∙ (broken all c.args.steps.now c.loop-rule.rule-index c.in-Some.step Speeds c.loop-rule-test.true (sym c.in-Some.ensures)
+    ∙ sym c.loop-rule.invariant)
 
-pub returns-then-step-steps-3 : goal.returns-then-step-steps-3
-unfolding rule_line
-returns-then-step-steps-3 c = grind (arith, nat_tests)
-
-pub returns-then-step-steps-4 : goal.returns-then-step-steps-4
-unfolding rule_line
-returns-then-step-steps-4 c = grind (arith, nat_tests)
-
-pub returns : goal.returns
-unfolding rule_line
-returns c = grind (arith, nat_tests)
+pub loop-rule-preserved : goal.loop-rule-preserved
+loop-rule-preserved c =
+    c.loop-rule.invariant
+    ∙ kept all c.args.steps.now c.loop-rule.rule-index Speeds c.loop-rule-test.true (sym c.in_default.ensures)
