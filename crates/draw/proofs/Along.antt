@@ -1,12 +1,9 @@
 -- The pieces of a lawful path and the cuts of its jobs, by number.
 -- Times rise from corner to corner and from cut to cut, so the piece at a time is the one whose ends enclose it,
 -- and a corner after a cut is no sooner than the next cut.
-use Rattle.std.proofs.Common.{◌≡◌, ℕ, zero, suc, ◌+◌, ◌-◌, ◌<◌, ◌≤◌, List, [], ◌∷◌, ◌++◌, length, get_or, drop, sym, refl, ap, ◌∙◌, subst, false, Bor, Option, Some, inl, inr, ap₂, add-one, arith}
+use Rattle.std.proofs.Common.{◌≡◌, ℕ, zero, suc, ◌+◌, ◌<◌, ◌≤◌, List, [], ◌∷◌, ◌++◌, length, get_or, drop, sym, refl, ap, ◌∙◌, subst, inl, inr, ap₂, add-one, arith}
 use Rattle.std.proofs.lemmas.List.{drop_more, get_or-map, length-map}
 use Rattle.std.proofs.lemmas.Bool.{cases_lt}
-use Rattle.std.proofs.lemmas.Iterator.{window_more}
-use Rattle.std.specs.Slice.Iter.{windows_rest, windows_size, windows_steps}
-use Rattle.std.specs.declared.slice.Windows.{Windows}
 use Rattle.model.specs.Jobs.{Ordered, job_at, span, cuts}
 use Rattle.model.specs.Path.{start, piece_from, piece_at}
 use Rattle.model.specs.Plan.{stretch, stretches}
@@ -174,24 +171,6 @@ cuts_read jobs held e i x y d l ex ey =
       here = ap (λ (x : Cut). x.time) ex ∙ (ap₂ (λ (x : List Cut) (k : ℕ). (get_or x k d).time) e z ∙ survey_time jobs i d (omega arith));
       after = ap (λ (x : Cut). x.time) ey ∙ (ap₂ (λ (x : List Cut) (k : ℕ). (get_or x k d).time) e (add-one i) ∙ survey_time jobs (suc i) d (omega arith));
     }
-
--- what stands for a cut past the last
-abbrev pub no_cut : Cut
-no_cut = record { time = 0; upper = 0; lower = 0; rises = false; falls = false }
-
--- the number of the first cut of those that are left
-abbrev pub at : List Cut → List Cut → ℕ
-at held left = length held - length left
-
--- a turn of a loop over neighbouring cuts
-pub turn_read : (jobs : List Job) (held : List Cut) → held ≡ survey jobs → (s t : Windows Cut) (r : Option (Bor (List Cut))) (w : Bor (List Cut)) → r ≡ Some w → windows_steps s r t
-    → windows_size s ≡ 2 → length (windows_rest s) ≤ length held → windows_rest s ≡ drop (at held (windows_rest s)) held
-    → Read jobs (at held (windows_rest s)) (get_or w.now 0 no_cut).time (get_or w.now 1 no_cut).time
-turn_read jobs held e s t r w is steps two fits rest =
-    let m = window_more held s t r w is steps (omega arith) fits rest in
-    let k = m.2 in
-    cuts_read jobs held e (at held (windows_rest s)) (get_or w.now 0 no_cut) (get_or w.now 1 no_cut) no_cut
-    (omega arith) (m.3 0 no_cut (omega arith)) (m.3 1 no_cut (omega arith))
 
 -- the stretches from cut number i on
 pub stretches_more : (steps : List Step) (c : List Point) (ts : List ℕ) (i : ℕ) → suc i < length ts

@@ -23,7 +23,7 @@ use Rattle.draw.proofs.Riding.{Stands, Rides, Ready, bounded_at, goes_on, rides_
 pub record Going (steps : List Step) (jobs : List Job) (c : List Point) (i : ℕ) (l : Lane) (d : Drawing) : Type 0 where
   pub lane : IsLane steps c l.number l
   pub stands : Stands c l.number (get_or (cuts jobs) i 0)
-  pub plan : gathered (d.segments.items) (stretches steps c (drop i (cuts jobs))) ≡ drawn steps jobs c
+  pub plan : gathered d.segments.items (stretches steps c (drop i (cuts jobs))) ≡ drawn steps jobs c
   pub spent : d.energy + energy steps (stretches steps c (drop i (cuts jobs))) ≡ energy steps (drawn steps jobs c)
   pub within : Within (get_or (cuts jobs) i 0) d
   pub few : length d.segments.items ≤ 2 * i
@@ -33,7 +33,7 @@ unfolding energy sum_of
 energy_more steps [] ys = omega arith
 energy_more steps (x ∷ xs) ys = let e = energy_more steps xs ys in omega arith
 
-module _ (steps : List Step) (jobs : List Job) (c : List Point) (d : Drawable steps jobs c) (short : span jobs ≤ 200000) (light : total jobs ≤ 256000000) where
+module _ {steps : List Step} {jobs : List Job} {c : List Point} (d : Drawable steps jobs c) (short : span jobs ≤ 200000) (light : total jobs ≤ 256000000) where
   pub corners_there : 0 < length jobs → 0 < length c
   corners_there l = some_corner jobs c d.kept (span_positive jobs d.ordered l)
 
@@ -53,7 +53,7 @@ module _ (steps : List Step) (jobs : List Job) (c : List Point) (d : Drawable st
         few = let a = ap (λ (x : List Segment). length x) none in omega arith;
       }
 
-  module _ (i : ℕ) (l : Lane) (r : Drawing) (g : Going steps jobs c i l r) (s t : ℕ) (read : Read jobs i s t) where
+  module _ {i : ℕ} {l : Lane} {r : Drawing} (g : Going steps jobs c i l r) {s t : ℕ} (read : Read jobs i s t) where
     near : Neighbours (cuts jobs) s t
     near = subst₂ (Neighbours (cuts jobs)) (sym read.here) (sym read.after) (cut_neighbours jobs i read.more)
 
@@ -69,7 +69,7 @@ module _ (steps : List Step) (jobs : List Job) (c : List Point) (d : Drawable st
         let k = goes_on steps jobs c d short light l s g.lane stands_here b m in
         (k, bounded_at steps jobs c d short light (omega arith) (suc l.number) k)
 
-    module _ (m : Lane) (ended : l.to.time ≤ s → IsLane steps c (suc l.number) m) (going : s < l.to.time → m ≡ l) where
+    module _ {m : Lane} (ended : l.to.time ≤ s → IsLane steps c (suc l.number) m) (going : s < l.to.time → m ≡ l) where
       rides : IsLane steps c m.number m × Rides c m.number s
       rides = rides_next steps jobs c d short light l m s g.lane stands_here before_end ended going
 
@@ -93,21 +93,21 @@ module _ (steps : List Step) (jobs : List Job) (c : List Point) (d : Drawable st
             stands = subst (Stands c m.number) read.after (stands_on steps jobs c d short light m s t rides.0 rides.1 near);
             plan =
                 ap (λ (x : List Segment). gathered x (stretches steps c (drop (suc i) (cuts jobs)))) er
-                ∙ (sym (gathered_more (r.segments.items) (runs_of m s t) (stretches steps c (drop (suc i) (cuts jobs))))
-                ∙ (ap (gathered (r.segments.items)) (sym parts) ∙ g.plan));
+                ∙ (sym (gathered_more r.segments.items (runs_of m s t) (stretches steps c (drop (suc i) (cuts jobs))))
+                ∙ (ap (gathered r.segments.items) (sym parts) ∙ g.plan));
             spent = omega arith;
             within = subst (λ (x : ℕ). Within x q) read.after w;
             few = omega arith;
           }
 
-  pub going_end : (i : ℕ) (l : Lane) (r : Drawing) → Going steps jobs c i l r → length (cuts jobs) ≤ suc i
+  pub going_end : {i : ℕ} {l : Lane} {r : Drawing} → Going steps jobs c i l r → length (cuts jobs) ≤ suc i
       → (r.segments.items ≡ drawn steps jobs c) × (r.energy ≡ energy steps (drawn steps jobs c))
   unfolding gathered energy sum_of
-  going_end i l r g m =
+  going_end {i} {l} {r} g m =
       let e = stretches_end steps c (cuts jobs) i m in
       let a = ap (energy steps) e in
       let b = g.spent in
-      (sym (ap (gathered (r.segments.items)) e) ∙ g.plan, omega arith)
+      (sym (ap (gathered r.segments.items) e) ∙ g.plan, omega arith)
 
 -- without jobs there is nothing to draw
 pub nothing_drawn : (steps : List Step) (jobs : List Job) (c : List Point) → length jobs ≡ 0 → drawn steps jobs c ≡ []

@@ -3,5 +3,6 @@ pub mod Climbing
 pub mod Bounds
 pub mod Stretched
 pub mod Along
+pub mod Pairs
 pub mod Riding
 pub mod Going

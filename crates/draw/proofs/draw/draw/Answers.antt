@@ -1,11 +1,10 @@
-use Rattle.std.proofs.Common.{◌≡◌, ◌<◌, ℕ, suc, List, length, get_or, drop, sym, ap, ◌∙◌, subst, refl, arith, rules}
-use Rattle.std.proofs.lemmas.Iterator.{window_more}
-use Rattle.std.specs.Slice.Iter.{windows_rest}
+use Rattle.std.proofs.Common.{◌<◌, ℕ, List, length, sym, ap, ◌∙◌, subst, refl, arith, rules}
 use Rattle.model.specs.Sums.{sum_of}
 use Rattle.model.specs.Plan.{energy}
 use Rattle.model.specs.declared.cut.Cut.{Cut}
-use Rattle.draw.proofs.Along.{no_cut, at, turn_read, cuts_begin, survey_length}
+use Rattle.draw.proofs.Along.{cuts_begin, survey_length}
 use Rattle.draw.proofs.Going.{Going, corners_there, bounded_first, going_start, can_advance, can_draw, going_next, going_end, nothing_drawn}
+use Rattle.draw.proofs.Pairs.{left_all, turn_read, left_more, left_end}
 use Rattle.draw.proofs.draw.draw.Goals as goal
 
 pub returns-then-is_empty : goal.returns-then-is_empty
@@ -20,50 +19,37 @@ returns-then-is_empty g c =
 
 pub at-lane-requires : goal.at-lane-requires
 at-lane-requires g c =
-    let steps = g.P.Processor.steps c.args.processor.now in
     let some : 0 < length c.args.jobs.now = search rules in
     record {
-      known = corners_there steps c.args.jobs.now c.args.corners.now c.requires.drawable c.requires.short c.requires.light some;
-      bounded = bounded_first steps c.args.jobs.now c.args.corners.now c.requires.drawable c.requires.short c.requires.light some;
+      known = corners_there c.requires.drawable c.requires.short c.requires.light some;
+      bounded = bounded_first c.requires.drawable c.requires.short c.requires.light some;
     }
 
 pub loop-pair-init : goal.loop-pair-init
 loop-pair-init g c =
-    let steps = g.P.Processor.steps c.args.processor.now in
-    let some : 0 < length c.args.jobs.now = search rules in
     let begins = (cuts_begin c.args.jobs.now).1 in
     let n = survey_length c.args.jobs.now in
     let e = ap (λ (xs : List Cut). length xs) c.requires.cuts in
-    let r : windows_rest c.into_iter-pair-iterator.result ≡ c.args.cuts.now = search rules in
-    let m = ap (λ (xs : List Cut). length xs) r in
-    let z : at c.args.cuts.now (windows_rest c.into_iter-pair-iterator.result) ≡ 0 = omega arith in
+    let (left, z) = left_all {held = c.args.cuts.now} {s = c.into_iter-pair-iterator.result} (search rules) (search rules) (omega arith) in
     record {
-      size = search rules;
-      some = omega arith;
-      fits = omega arith;
-      rest = r ∙ ap (λ (k : ℕ). drop k c.args.cuts.now) (sym z);
+      left = left;
       going =
-          subst (λ (k : ℕ). Going steps c.args.jobs.now c.args.corners.now k c.at-lane.result (record { segments = c.new.result; energy = 0 })) (sym z)
-          (going_start steps c.args.jobs.now c.args.corners.now c.requires.drawable c.requires.short c.requires.light
-          c.at-lane.result (record { segments = c.new.result; energy = 0 }) some c.at-lane.ensures c.new.ensures refl);
+          subst (λ (k : ℕ). Going (g.P.Processor.steps c.args.processor.now) c.args.jobs.now c.args.corners.now k c.at-lane.result (record { segments = c.new.result; energy = 0 })) (sym z)
+          (going_start c.requires.drawable c.requires.short c.requires.light c.at-lane.result (record { segments = c.new.result; energy = 0 }) (search rules) c.at-lane.ensures c.new.ensures refl);
     }
 
 pub advance-requires : goal.advance-requires
 advance-requires g c =
     let i = c.loop-pair.invariant in
-    let a = can_advance (g.P.Processor.steps c.args.processor.now) c.args.jobs.now c.args.corners.now c.requires.drawable c.requires.short c.requires.light
-    (at c.args.cuts.now (windows_rest c.loop-pair.pair-iterator)) c.loop-pair.lane c.loop-pair.drawing i.going
-    (get_or c.in-Some.pair.now 0 no_cut).time (get_or c.in-Some.pair.now 1 no_cut).time (turn_read c.args.jobs.now c.args.cuts.now c.requires.cuts c.loop-pair.pair-iterator c.next.new.self _ _ c.in-Some.is c.next.ensures.steps i.size i.fits i.rest) in
+    let r = turn_read i.left c.next.new.self c.next.ensures.steps c.in-Some.is c.args.jobs.now c.requires.cuts in
+    let a = can_advance c.requires.drawable c.requires.short c.requires.light i.going r in
     record { known = λ m. (a m).0; bounded = λ m. (a m).1 }
 
 pub stretch-requires : goal.stretch-requires
 stretch-requires g c =
     let i = c.loop-pair.invariant in
-    let r = turn_read c.args.jobs.now c.args.cuts.now c.requires.cuts c.loop-pair.pair-iterator c.next.new.self _ _ c.in-Some.is c.next.ensures.steps i.size i.fits i.rest in
-    let (on, ready, within) = can_draw (g.P.Processor.steps c.args.processor.now) c.args.jobs.now c.args.corners.now c.requires.drawable c.requires.short c.requires.light
-    (at c.args.cuts.now (windows_rest c.loop-pair.pair-iterator)) c.loop-pair.lane c.loop-pair.drawing i.going
-    (get_or c.in-Some.pair.now 0 no_cut).time (get_or c.in-Some.pair.now 1 no_cut).time r
-    c.advance.new.self c.advance.ensures.ended c.advance.ensures.going in
+    let r = turn_read i.left c.next.new.self c.next.ensures.steps c.in-Some.is c.args.jobs.now c.requires.cuts in
+    let (on, ready, within) = can_draw c.requires.drawable c.requires.short c.requires.light i.going r c.advance.ensures.ended c.advance.ensures.going in
     record {
       begun = ready.begun;
       onward = omega arith;
@@ -81,19 +67,14 @@ stretch-requires g c =
 pub loop-pair-preserved : goal.loop-pair-preserved
 loop-pair-preserved g c =
     let i = c.loop-pair.invariant in
-    let w = window_more c.args.cuts.now c.loop-pair.pair-iterator c.next.new.self _ _ c.in-Some.is c.next.ensures.steps (omega arith) i.fits i.rest in
-    let n = going_next (g.P.Processor.steps c.args.processor.now) c.args.jobs.now c.args.corners.now c.requires.drawable c.requires.short c.requires.light
-    (at c.args.cuts.now (windows_rest c.loop-pair.pair-iterator)) c.loop-pair.lane c.loop-pair.drawing i.going
-    (get_or c.in-Some.pair.now 0 no_cut).time (get_or c.in-Some.pair.now 1 no_cut).time (turn_read c.args.jobs.now c.args.cuts.now c.requires.cuts c.loop-pair.pair-iterator c.next.new.self _ _ c.in-Some.is c.next.ensures.steps i.size i.fits i.rest)
-    c.advance.new.self c.advance.ensures.ended c.advance.ensures.going
-    c.stretch.new.self c.stretch.ensures.runs c.stretch.ensures.few c.stretch.ensures.spent c.stretch.ensures.within in
-    let z : suc (at c.args.cuts.now (windows_rest c.loop-pair.pair-iterator)) ≡ at c.args.cuts.now (windows_rest c.next.new.self) = omega arith in
+    let r = turn_read i.left c.next.new.self c.next.ensures.steps c.in-Some.is c.args.jobs.now c.requires.cuts in
+    let (left, z) = left_more i.left c.next.new.self c.next.ensures.steps c.in-Some.is in
     record {
-      size = c.next.ensures.steps.0 ∙ i.size;
-      some = omega arith;
-      fits = omega arith;
-      rest = w.1;
-      going = subst (λ (k : ℕ). Going (g.P.Processor.steps c.args.processor.now) c.args.jobs.now c.args.corners.now k c.advance.new.self c.stretch.new.self) z n;
+      left = left;
+      going =
+          subst (λ (k : ℕ). Going (g.P.Processor.steps c.args.processor.now) c.args.jobs.now c.args.corners.now k c.advance.new.self c.stretch.new.self) z
+          (going_next c.requires.drawable c.requires.short c.requires.light i.going r c.advance.ensures.ended c.advance.ensures.going
+          c.stretch.new.self c.stretch.ensures.runs c.stretch.ensures.few c.stretch.ensures.spent c.stretch.ensures.within);
     }
 
 pub returns : goal.returns
@@ -101,12 +82,8 @@ returns g c =
     let i = c.loop-pair.invariant in
     let n = survey_length c.args.jobs.now in
     let e = ap (λ (xs : List Cut). length xs) c.requires.cuts in
-    let s = c.in-None.ensures.steps.1.0 in
-    let z = going_end (g.P.Processor.steps c.args.processor.now) c.args.jobs.now c.args.corners.now c.requires.drawable c.requires.short c.requires.light
-    (at c.args.cuts.now (windows_rest c.loop-pair.pair-iterator)) c.loop-pair.lane c.loop-pair.drawing i.going (omega arith) in
+    let l = left_end i.left c.in-None.ensures.steps.1.0 in
+    let (plan, spent) = going_end c.requires.drawable c.requires.short c.requires.light i.going (omega arith) in
     let f = i.going.few in
-    record {
-      plan = z.0;
-      few = omega (arith, c.requires.few);
-      spent = z.1;
-    }
+    let some = i.left.some in
+    record { plan = plan; few = omega (arith, c.requires.few); spent = spent }
