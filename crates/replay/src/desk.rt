@@ -67,10 +67,10 @@ impl Desk {
     // Plans into a buffer of the given length.
     fn plan(&self, room: usize) -> anyhow::Result<Answer> {
         let mut buffer = [Segment::default(); 1024];
-        if room > 1024 {
+        let Some(lent) = buffer.get_mut(..room) else {
             return Err(anyhow!("a buffer is longer than 1,024 segments"));
-        }
-        self.plan_into(&mut buffer[0..room])
+        };
+        self.plan_into(lent)
     }
 
     // Has a processor stand from now on, unless it is refused.

@@ -53,14 +53,10 @@ fn replay_line(
 // Replays every line of the input.
 fn replay(rt: &HostRuntime, desk: &mut Desk, tally: &mut Tally) -> anyhow::Result<()> {
     for line in BufReader::new(rt.alloc(), rt.stdin())?.lines(rt.alloc()) {
-        match line {
-            Ok(line) => {
-                if let Err(why) = replay_line(rt, desk, tally, line.as_str()) {
-                    let _ = eprintln!(rt; "stopped at: {line}");
-                    return Err(why);
-                }
-            }
-            Err(why) => return Err(why.into()),
+        let line = line?;
+        if let Err(why) = replay_line(rt, desk, tally, line.as_str()) {
+            let _ = eprintln!(rt; "stopped at: {line}");
+            return Err(why);
         }
     }
     Ok(())
