@@ -1,19 +1,20 @@
 -- The groups of a number: how many there are, and each written behind those before it.
-use Rattle.std.proofs.Common.{◌≡◌, ℕ, zero, suc, ◌+◌, ◌-◌, ◌/◌, ◌%◌, ◌<◌, ◌≤◌, ltb, List, [], ◌∷◌, ◌++◌, length, get_or, take, drop, set, sym, refl, ap, ◌∙◌, inl, inr, mod-eq_of_lt, arith}
+use Rattle.std.proofs.Common.{◌≡◌, ℕ, zero, suc, ◌+◌, ◌-◌, ◌/◌, ◌%◌, ◌<◌, ◌≤◌, List, [], ◌∷◌, ◌++◌, length, get_or, take, drop, set, sym, refl, ap, ◌∙◌, inl, inr, mod-eq_of_lt, arith}
 use Rattle.std.proofs.lemmas.List.{append_assoc, length-append, length-take-le, take_more_set, take_all, length-set, drop_more, set_at}
-use Rattle.std.proofs.lemmas.Bool.{cond-true, cond-false, lt-ltb, le-ltb, cases_lt}
+use Rattle.std.proofs.lemmas.Bool.Decides.{nat_tests}
+use Rattle.std.proofs.lemmas.Bool.{cases_lt}
 use Rattle.record.specs.Numbers.{groups, number_bytes}
 
 -- a number below 128 is one group
 pub groups_one : (k n : ℕ) → n < 128 → groups k n ≡ n ∷ []
 unfolding groups
 groups_one zero n l = ap (λ (x : ℕ). x ∷ []) (mod-eq_of_lt l)
-groups_one (suc k) n l = cond-true (ltb n 128) (n ∷ []) ((128 + n % 128) ∷ groups k (n / 128)) (lt-ltb n 128 l)
+groups_one (suc k) n l = grind (arith, nat_tests)
 
 -- from 128 on the lowest group has its top bit set, and the others follow
 pub groups_suc : (k n : ℕ) → 128 ≤ n → groups (suc k) n ≡ (128 + n % 128) ∷ groups k (n / 128)
 unfolding groups
-groups_suc k n l = cond-false (ltb n 128) (n ∷ []) ((128 + n % 128) ∷ groups k (n / 128)) (le-ltb n 128 l)
+groups_suc k n l = grind (arith, nat_tests)
 
 -- the same, counted up
 pub groups_more : (k n : ℕ) → k < 4 → 128 ≤ n → groups (4 - k) n ≡ (128 + n % 128) ∷ groups (4 - (k + 1)) (n / 128)

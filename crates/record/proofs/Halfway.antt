@@ -1,7 +1,7 @@
 -- Halfway through a number: what k bytes with their top bit have given, and what the bytes from there on add to it.
-use Rattle.std.proofs.Common.{◌≡◌, ℕ, suc, ◌+◌, ◌-◌, ◌*◌, ◌/◌, ◌%◌, ◌^◌, ◌<◌, ◌≤◌, Bool, false, cond, ◌&&◌, eqb, ltb, ◌⊎◌, List, [], ◌∷◌, ◌++◌, sym, refl, ap, ◌∙◌, inl, inr, mul-le-mul_right, mul_assoc, mul_comm, add-mul, pow-suc, arith, lit<}
+use Rattle.std.proofs.Common.{◌≡◌, ℕ, suc, ◌+◌, ◌-◌, ◌*◌, ◌/◌, ◌%◌, ◌^◌, ◌<◌, ◌≤◌, Bool, cond, ◌&&◌, eqb, ltb, List, [], ◌∷◌, ◌++◌, sym, refl, ap, ◌∙◌, mul-le-mul_right, mul_assoc, mul_comm, add-mul, pow-suc, arith, lit<}
 use native.Mathlib.Nat.{pow-le-pow_right}
-use Rattle.std.proofs.lemmas.Bool.{cond-true, cond-false, lt-ltb, le-ltb, eq-eqb, ne_eqb, and_from, and_left, and_right, cases_eq}
+use Rattle.std.proofs.lemmas.Bool.Decides.{nat_tests}
 use Rattle.record.specs.Got.{Got, got, refused, refuse}
 use Rattle.record.specs.Numbers.{groups, number_bytes, read_groups, read_number, carried}
 use Rattle.record.proofs.Groups.{groups_one, groups_more}
@@ -25,6 +25,12 @@ read_at k b next l =
     let e : 5 - k ≡ suc (5 - (k + 1)) = omega arith in
     ap (λ (f : ℕ). read_groups f (b ∷ next)) e
 
+ends_at : (k b : ℕ) (next : List ℕ) → k < 5 → b < 128 → read_groups (5 - k) (b ∷ next) ≡ got b next
+ends_at k b next l h = let e = read_at k b next l in grind (arith, nat_tests)
+
+goes_on : (k b : ℕ) (next : List ℕ) → k < 5 → 128 ≤ b → read_groups (5 - k) (b ∷ next) ≡ carried b (read_groups (5 - (k + 1)) next)
+goes_on k b next l h = let e = read_at k b next l in grind (arith, nat_tests)
+
 sums : (n d m scale : ℕ) → n + (d + 128 * m) * scale ≡ n + d * scale + m * (scale * 128)
 sums n d m scale =
     let a = add-mul d (128 * m) scale in
@@ -35,23 +41,7 @@ sums n d m scale =
 
 placed_more : (k b n scale : ℕ) (g : Got ℕ) → placed (ltb 0 k) n scale (carried b g) ≡ placed (ltb 0 (k + 1)) (n + (b - 128) * scale) (scale * 128) g
 placed_more k b n scale (refused t) = refl
-placed_more k b n scale (got m rest) =
-    elim (cases_eq m 0) [
-      | inl z ↦
-          ap (λ (g : Got ℕ). placed (ltb 0 k) n scale g) (cond-true (eqb m 0) (refuse 26) (got (b - 128 + 128 * m) rest) (eq-eqb m 0 z))
-          ∙ sym
-          (cond-true (ltb 0 (k + 1) && eqb m 0) (refuse 26) (got (n + (b - 128) * scale + m * (scale * 128)) rest)
-          (and_from (ltb 0 (k + 1)) (eqb m 0) (lt-ltb 0 (k + 1) (omega arith)) (eq-eqb m 0 z)))
-      | inr z ↦
-          let p : (b - 128 + 128 * m ≡ 0 → ⊥) = λ e. z (omega arith) in
-          ap (λ (g : Got ℕ). placed (ltb 0 k) n scale g) (cond-false (eqb m 0) (refuse 26) (got (b - 128 + 128 * m) rest) (ne_eqb m 0 z))
-          ∙ cond-false (ltb 0 k && eqb (b - 128 + 128 * m) 0) (refuse 26) (got (n + (b - 128 + 128 * m) * scale) rest)
-          (and_right (ltb 0 k) (eqb (b - 128 + 128 * m) 0) (ne_eqb (b - 128 + 128 * m) 0 p))
-          ∙ ap (λ (x : ℕ). got x rest) (sums n (b - 128) m scale)
-          ∙ sym
-          (cond-false (ltb 0 (k + 1) && eqb m 0) (refuse 26) (got (n + (b - 128) * scale + m * (scale * 128)) rest)
-          (and_right (ltb 0 (k + 1)) (eqb m 0) (ne_eqb m 0 z)))
-    ]
+placed_more k b n scale (got m rest) = let e = sums n (b - 128) m scale in grind (arith, nat_tests)
 
 -- a byte with its top bit before further groups
 grouped : (k b m : ℕ) → k < 4 → 128 ≤ b → b < 256 → 0 < m → groups (4 - k) (b - 128 + 128 * m) ≡ b ∷ groups (4 - (k + 1)) m
@@ -79,10 +69,7 @@ on_by {bytes} {rest} {next} {k} {n} {scale} {b} w e l h h' = record {
   reads =
       sym (placed_more k b n scale (read_groups (5 - (k + 1)) next))
       ∙ ap (λ (g : Got ℕ). placed (ltb 0 k) n scale g)
-      (sym
-      (ap (λ (xs : List ℕ). read_groups (5 - k) xs) e
-      ∙ read_at k b next l
-      ∙ cond-false (ltb b 128) (got b next) (carried b (read_groups (5 - (k + 1)) next)) (le-ltb b 128 h)))
+      (sym (ap (λ (xs : List ℕ). read_groups (5 - k) xs) e ∙ goes_on k b next l h))
       ∙ w.reads;
   exact = λ j m tail p f.
       w.exact l (b - 128 + 128 * m) tail (λ _. let q : 0 < m = p (omega arith) in omega arith)
@@ -111,17 +98,13 @@ overlong {bytes} {rest} {k} {n} {scale} w l =
 last_at : {bytes rest next : List ℕ} {k n scale b : ℕ} → Halfway bytes rest k n scale → rest ≡ b ∷ next → k < 5 → b < 128 → placed (ltb 0 k) n scale (got b next) ≡ read_number bytes
 last_at {bytes} {rest} {next} {k} {n} {scale} {b} w e l h =
     ap (λ (g : Got ℕ). placed (ltb 0 k) n scale g)
-    (sym
-    (ap (λ (xs : List ℕ). read_groups (5 - k) xs) e
-    ∙ read_at k b next l
-    ∙ cond-true (ltb b 128) (got b next) (carried b (read_groups (5 - (k + 1)) next)) (lt-ltb b 128 h)))
+    (sym (ap (λ (xs : List ℕ). read_groups (5 - k) xs) e ∙ ends_at k b next l h))
     ∙ w.reads
 
 -- a last byte of 0 after others
 pub padded : {bytes rest next : List ℕ} {k n scale b : ℕ} → Halfway bytes rest k n scale → rest ≡ b ∷ next → k < 5 → 0 < k → b ≡ 0 → refuse 26 ≡ read_number bytes
 padded {bytes} {rest} {next} {k} {n} {scale} {b} w e l p z =
-    sym (cond-true (ltb 0 k && eqb b 0) (refuse 26) (got (n + b * scale) next) (and_from (ltb 0 k) (eqb b 0) (lt-ltb 0 k p) (eq-eqb b 0 z)))
-    ∙ last_at w e l (omega arith)
+    let h = last_at w e l (omega arith) in grind (arith, nat_tests)
 
 -- what is added and how it is scaled stays within bounds
 pub within : {bytes rest : List ℕ} {k n scale : ℕ} → Halfway bytes rest k n scale → k < 5 → (b : ℕ) → b < 256 → (scale ≤ 268435456) × (n < 268435456) × (b * scale ≤ b * 268435456)
@@ -140,11 +123,7 @@ pub closed : {bytes rest next : List ℕ} {k n scale b : ℕ} → Halfway bytes 
     × (n + b * scale < 2 ^ 35)
     × (bytes ≡ number_bytes (n + b * scale) ++ next)
 closed {bytes} {rest} {next} {k} {n} {scale} {b} w e l h p = (
-  sym (cond-false (ltb 0 k && eqb b 0) (refuse 26) (got (n + b * scale) next) (later (cases_eq k 0))) ∙ last_at w e l h,
+  (let f = last_at w e l h in grind (arith, nat_tests)),
   (let u = within w l b (omega arith) in omega arith),
   w.exact l b next p (e ∙ ap (λ (xs : List ℕ). xs ++ next) (sym (groups_one (4 - k) b h))),
 )
-  where
-    later : (k ≡ 0) ⊎ (k ≡ 0 → ⊥) → (ltb 0 k && eqb b 0) ≡ false
-    later (inl z) = and_left (ltb 0 k) (eqb b 0) (le-ltb 0 k (omega arith))
-    later (inr z) = and_right (ltb 0 k) (eqb b 0) (ne_eqb b 0 (λ f. let q : 0 < b = p (omega arith) in omega arith))

@@ -1,12 +1,13 @@
 -- A plan gone through before it is written: what is left has the first fault, and the bytes of what is past are counted.
-use Rattle.std.proofs.Common.{◌≡◌, ℕ, ◌+◌, ◌*◌, ◌<◌, ◌≤◌, ltb, leb, ◌⊎◌, List, [], ◌∷◌, ◌++◌, length, get_or, take, drop, Some, None, Ok, Err, Option, Result, sym, refl, ap, ◌∙◌, inl, inr, arith}
+use Rattle.std.proofs.Common.{◌≡◌, ℕ, ◌+◌, ◌*◌, ◌<◌, ◌≤◌, leb, ◌⊎◌, List, [], ◌∷◌, ◌++◌, length, get_or, take, drop, Some, None, Ok, Err, Option, Result, sym, refl, ap, ◌∙◌, inl, inr, arith}
 use Rattle.model.specs.declared.segment.Segment.{Segment}
 use Rattle.refusal.specs.Refusals.{Told, told, line, first_of}
 use Rattle.refusal.proofs.Lines.{first_pass, first_hit}
 use Rattle.std.proofs.lemmas.List.{append_assoc, append-nil, length-append, drop_more, drop_all, take_more, take_all}
-use Rattle.std.proofs.lemmas.Bool.{cond-true, cond-false, lt-ltb, le-ltb, le-leb, lt-leb, cases_lt}
+use Rattle.std.proofs.lemmas.Bool.Decides.{nat_tests}
+use Rattle.std.proofs.lemmas.Bool.{le-leb, lt-leb, cases_lt}
 use Rattle.record.specs.Numbers.{number_bytes}
-use Rattle.record.specs.Writing.{segment_bytes, segments_bytes, record_bytes, joins, faults, or_else, unless, passed}
+use Rattle.record.specs.Writing.{segment_bytes, segments_bytes, record_bytes, joins, faults, or_else, passed}
 use Rattle.record.proofs.Groups.{number_most}
 
 -- a segment of a list, and what stands for one past its end
@@ -71,11 +72,14 @@ measured_on {steps} {k} {before} {ticks} {long} {before'} {ticks'} {n} {m} {segs
 -- a fault is the answer
 faulty : (steps : ℕ) (segs : List Segment) (t : Told) (r : Result ℕ Told) → length segs ≤ 1024 → faults steps steps 0 segs ≡ Some t → Err t ≡ passed steps segs r
 faulty steps segs t r l e =
-    ap (λ (o : Option Told). unless o r) (sym e)
-    ∙ sym (cond-false (ltb 1024 (length segs)) (Err (told 20 0)) (unless (faults steps steps 0 segs) r) (le-ltb 1024 (length segs) l))
+    grind (arith, nat_tests)
+
+-- and where there is none, what follows
+faultless : (steps : ℕ) (segs : List Segment) (r : Result ℕ Told) → length segs ≤ 1024 → faults steps steps 0 segs ≡ None → passed steps segs r ≡ r
+faultless steps segs r l e = grind (arith, nat_tests)
 
 pub too_long : (steps : ℕ) (segs : List Segment) (r : Result ℕ Told) → 1024 < length segs → Err (told 20 0) ≡ passed steps segs r
-too_long steps segs r l = sym (cond-true (ltb 1024 (length segs)) (Err (told 20 0)) (unless (faults steps steps 0 segs) r) (lt-ltb 1024 (length segs) l))
+too_long steps segs r l = grind (arith, nat_tests)
 
 pub measured_lacking : {steps k before ticks long : ℕ} {segs : List Segment} → Measured steps k before ticks long segs → (r : Result ℕ Told) → length segs ≤ 1024 → k < length segs
     → steps ≤ (at segs k).step → Err (told 21 0) ≡ passed steps segs r
@@ -103,9 +107,7 @@ measured_all {steps} {k} {before} {ticks} {long} {segs} w b l =
     let n : faults steps steps 0 segs ≡ None = sym w.left ∙ ap (λ (ss : List Segment). faults steps before ticks ss) (drop_all k segs l) in
     let c = ap (λ (ss : List Segment). length (segments_bytes ss)) (take_all k segs l) in
     let m : long ≡ length (record_bytes 0 segs) = omega (arith, w.bytes, length-append (number_bytes (length segs)) (segments_bytes segs)) in
-    ap (λ (x : ℕ). Ok x) m
-    ∙ ap (λ (o : Option Told). unless o (Ok (length (record_bytes 0 segs)))) (sym n)
-    ∙ sym (cond-false (ltb 1024 (length segs)) (Err (told 20 0)) (unless (faults steps steps 0 segs) (Ok (length (record_bytes 0 segs)))) (le-ltb 1024 (length segs) b))
+    ap (λ (x : ℕ). Ok x) m ∙ sym (faultless steps segs (Ok (length (record_bytes 0 segs))) b n)
 
 -- whatever would follow, a plan is refused by one fault, or by none
 pub passed_ways : (steps : ℕ) (segs : List Segment)
@@ -118,14 +120,7 @@ passed_ways steps segs =
         → ((t : Told) × ((r : Result ℕ Told) → passed steps segs r ≡ Err t))
         ⊎ (((r : Result ℕ Told) → passed steps segs r ≡ r) × (length segs ≤ 1024) × (faults steps steps 0 segs ≡ None))
     by l (Some t) e = inl (t, λ r. sym (faulty steps segs t r l e))
-    by l None e =
-        inr (
-          (λ r.
-              cond-false (ltb 1024 (length segs)) (Err (told 20 0)) (unless (faults steps steps 0 segs) r) (le-ltb 1024 (length segs) l)
-              ∙ ap (λ (o : Option Told). unless o r) e),
-          l,
-          e,
-        )
+    by l None e = inr ((λ r. faultless steps segs r l e), l, e)
 
 -- a plan that passes has the count that was asked for, and passes whatever follows
 pub passed_ok : (steps n m : ℕ) (segs : List Segment) → Ok n ≡ passed steps segs (Ok m)

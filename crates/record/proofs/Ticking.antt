@@ -1,9 +1,10 @@
 -- The step at a tick, when one more segment is put at the end of a plan.
-use Rattle.std.proofs.Common.{◌≡◌, ℕ, ◌+◌, ◌-◌, ◌<◌, ◌≤◌, ltb, ◌⊎◌, List, [], ◌∷◌, ◌++◌, Some, None, Option, sym, refl, ◌∙◌, inl, inr, arith}
+use Rattle.std.proofs.Common.{◌≡◌, ℕ, ◌+◌, ◌-◌, ◌<◌, ◌≤◌, ◌⊎◌, List, [], ◌∷◌, ◌++◌, Some, None, Option, sym, refl, ◌∙◌, inl, inr, arith}
 use Rattle.model.specs.Sums.{sum_of}
 use Rattle.model.specs.Plan.{ticks_of}
 use Rattle.model.specs.declared.segment.Segment.{Segment}
-use Rattle.std.proofs.lemmas.Bool.{cond-true, cond-false, lt-ltb, le-ltb, cases_lt}
+use Rattle.std.proofs.lemmas.Bool.Decides.{nat_tests}
+use Rattle.std.proofs.lemmas.Bool.{cases_lt}
 use Rattle.record.specs.Checks.{Stands}
 use Rattle.record.specs.Reading.{step_at}
 
@@ -22,11 +23,11 @@ ticks_none = refl
 
 step_here : (x : Segment) (ss : List Segment) (tick : ℕ) → tick < x.ticks → step_at (x ∷ ss) tick ≡ x.step
 unfolding step_at
-step_here x ss tick l = cond-true (ltb tick x.ticks) x.step (step_at ss (tick - x.ticks)) (lt-ltb tick x.ticks l)
+step_here x ss tick l = grind (arith, nat_tests)
 
 step_later : (x : Segment) (ss : List Segment) (tick : ℕ) → x.ticks ≤ tick → step_at (x ∷ ss) tick ≡ step_at ss (tick - x.ticks)
 unfolding step_at
-step_later x ss tick l = cond-false (ltb tick x.ticks) x.step (step_at ss (tick - x.ticks)) (le-ltb tick x.ticks l)
+step_later x ss tick l = grind (arith, nat_tests)
 
 -- a tick that the plan had before keeps its step
 pub step_kept : (ss : List Segment) (s : Segment) (tick : ℕ) → tick < ticks_of ss → step_at (ss ++ (s ∷ [])) tick ≡ step_at ss tick

@@ -1,12 +1,12 @@
 -- A whole record: its kind, and then its body.
-use Rattle.std.proofs.Common.{◌≡◌, ℕ, ◌<◌, ◌≤◌, cond, ◌&&◌, eqb, leb, ◌⊎◌, List, [], ◌∷◌, ◌++◌, length, take, drop, Some, None, Option, Err, Result, sym, ap, ◌∙◌, inl, inr}
+use Rattle.std.proofs.Common.{◌≡◌, ℕ, ◌<◌, ◌≤◌, cond, ◌&&◌, eqb, leb, ◌⊎◌, List, [], ◌∷◌, ◌++◌, length, take, drop, Some, None, Option, Err, Result, sym, ap, ◌∙◌, arith}
 use Rattle.model.specs.declared.segment.Segment.{Segment}
 use Rattle.refusal.specs.Refusals.{Told}
 use Rattle.refusal.specs.declared.refusal.Refusal.{Refusal}
 use Rattle.refusal.specs.declared.refusal.Refusal.TheVariants.{Past}
 use Rattle.std.specs.Option.{ok_or}
 use Rattle.std.proofs.lemmas.List.{take_at, length-take-le}
-use Rattle.std.proofs.lemmas.Bool.{cond-true, cond-false, eq-eqb, ne_eqb, le-leb, lt-leb, and_from, and_left, and_right}
+use Rattle.std.proofs.lemmas.Bool.Decides.{nat_tests}
 use Rattle.record.specs.Checks.{Stands}
 use Rattle.record.specs.Got.{Got, got, refused, refuse, counted, filled}
 use Rattle.record.specs.Numbers.{number_bytes}
@@ -26,14 +26,12 @@ record_at kind steps room b bytes body e = ap (λ (xs : List ℕ). read_record k
 -- the kind is another
 pub other_kind : (kind steps room b : ℕ) (bytes body : List ℕ) → bytes ≡ b ∷ body → (b ≡ kind → ⊥) → read_record kind steps room bytes ≡ refuse 27
 other_kind kind steps room b bytes body e n =
-    record_at kind steps room b bytes body e ∙ cond-false (eqb b kind) (read_body steps room body) (refuse 27) (ne_eqb b kind n)
+    let h = record_at kind steps room b bytes body e in grind (arith, nat_tests)
 
 -- the kind is this one
 pub same_kind : (kind steps steps' room b : ℕ) (bytes body : List ℕ) → bytes ≡ b ∷ body → b ≡ kind → steps' ≡ steps → read_record kind steps room bytes ≡ read_body steps' room body
 same_kind kind steps steps' room b bytes body e f q =
-    record_at kind steps room b bytes body e
-    ∙ cond-true (eqb b kind) (read_body steps room body) (refuse 27) (eq-eqb b kind f)
-    ∙ ap (λ (n : ℕ). read_body n room body) (sym q)
+    let h = record_at kind steps room b bytes body e in grind (arith, nat_tests)
 
 -- bytes that read as segments are the record of these
 pub exactly : (kind b : ℕ) (bytes body : List ℕ) (ss : List Segment) → bytes ≡ b ∷ body → b ≡ kind → body ≡ number_bytes (length ss) ++ segments_bytes ss → bytes ≡ record_bytes kind ss
@@ -67,14 +65,11 @@ unfolding read_any
 any_at b bytes body e = ap read_any e
 
 pub any_kindless : (b : ℕ) (bytes body : List ℕ) → bytes ≡ b ∷ body → (b < 1) ⊎ (127 < b) → read_any bytes ≡ refuse 27
-any_kindless b bytes body e (inl h) =
-    any_at b bytes body e ∙ cond-false (leb 1 b && leb b 127) (read_body 16 1024 body) (refuse 27) (and_left (leb 1 b) (leb b 127) (lt-leb 1 b h))
-any_kindless b bytes body e (inr h) =
-    any_at b bytes body e ∙ cond-false (leb 1 b && leb b 127) (read_body 16 1024 body) (refuse 27) (and_right (leb 1 b) (leb b 127) (lt-leb b 127 h))
+any_kindless b bytes body e h = let f = any_at b bytes body e in grind (arith, nat_tests)
 
 pub any_body : (b : ℕ) (bytes body : List ℕ) → bytes ≡ b ∷ body → (1 ≤ b) × (b ≤ 127) → read_any bytes ≡ read_body 16 1024 body
 any_body b bytes body e h =
-    any_at b bytes body e ∙ cond-true (leb 1 b && leb b 127) (read_body 16 1024 body) (refuse 27) (and_from (leb 1 b) (leb b 127) (le-leb 1 b h.0) (le-leb b 127 h.1))
+    let f = any_at b bytes body e in grind (arith, nat_tests)
 
 -- the machine's answer on a record that passes: the step that was found, or the number of the refusal
 pub answer_found : (steps tick : ℕ) (ss : List Segment) (g : Got (List Segment)) (o : Option ℕ) → g ≡ got ss [] → Stands steps tick ss o

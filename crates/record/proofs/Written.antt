@@ -1,9 +1,9 @@
 -- A record written: the answer, and what the frame then reads as.
-use Rattle.std.proofs.Common.{◌≡◌, ℕ, ◌<◌, ◌≤◌, ltb, List, [], length, take, drop, None, Ok, Err, Result, sym, ap, ◌∙◌, arith}
+use Rattle.std.proofs.Common.{◌≡◌, ℕ, ◌<◌, ◌≤◌, List, [], length, take, drop, None, Ok, Err, Result, ap, ◌∙◌, arith}
 use Rattle.frame.specs.Laid.{laid}
 use Rattle.model.specs.declared.segment.Segment.{Segment}
 use Rattle.refusal.specs.Refusals.{Told, told}
-use Rattle.std.proofs.lemmas.Bool.{cond-true, cond-false, lt-ltb, le-ltb}
+use Rattle.std.proofs.lemmas.Bool.Decides.{nat_tests}
 use Rattle.record.specs.Got.{got}
 use Rattle.record.specs.Reading.{read_record}
 use Rattle.record.specs.Writing.{record_bytes, faults, passed, fitted, write_answer}
@@ -27,16 +27,12 @@ sized kind {steps} {steps'} {n} {segs} q e =
 -- there is too little room
 pub answer_short : {kind steps n room : ℕ} {segs : List Segment} → Sized kind steps n segs → room < n → Err (told 24 n) ≡ write_answer kind steps segs room
 answer_short {kind} {steps} {n} {room} {segs} w l =
-    sym (cond-true (ltb room n) (Err (told 24 n)) (Ok n) (lt-ltb room n l))
-    ∙ ap (λ (x : ℕ). fitted room x) w.long
-    ∙ sym (w.passes (fitted room (length (record_bytes kind segs))))
+    let e = w.passes (fitted room (length (record_bytes kind segs))) in grind (arith, nat_tests)
 
 -- there is room
 pub answer_fits : {kind steps n room : ℕ} {segs : List Segment} → Sized kind steps n segs → n ≤ room → Ok n ≡ write_answer kind steps segs room
 answer_fits {kind} {steps} {n} {room} {segs} w l =
-    sym (cond-false (ltb room n) (Err (told 24 n)) (Ok n) (le-ltb room n l))
-    ∙ ap (λ (x : ℕ). fitted room x) w.long
-    ∙ sym (w.passes (fitted room (length (record_bytes kind segs))))
+    let e = w.passes (fitted room (length (record_bytes kind segs))) in grind (arith, nat_tests)
 
 -- the record reads as what was written
 pub written_back : (kind' : ℕ) (frame : List ℕ) {kind steps n offset room : ℕ} {segs : List Segment} {now : List ℕ} → Sized kind steps n segs → steps ≤ 16
