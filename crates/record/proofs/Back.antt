@@ -1,16 +1,18 @@
 -- A record read back: the segments that were written.
-use Rattle.std.proofs.Common.{◌≡◌, ℕ, zero, suc, ◌+◌, ◌-◌, ◌*◌, ◌/◌, ◌%◌, ◌<◌, ◌≤◌, eqb, ltb, leb, List, [], ◌∷◌, ◌++◌, length, take, drop, is_some, Some, None, Option, sym, refl, ap, ◌∙◌, inl, inr, arith}
+use Rattle.std.proofs.Common.{◌≡◌, ℕ, zero, suc, ◌+◌, ◌-◌, ◌*◌, ◌/◌, ◌%◌, ◌<◌, ◌≤◌, leb, List, [], ◌∷◌, ◌++◌, length, take, drop, is_some, Some, None, Option, sym, refl, ap, ◌∙◌, inl, inr, arith}
 use Rattle.model.specs.Plan.{segment}
 use Rattle.model.specs.declared.segment.Segment.{Segment}
 use Rattle.refusal.specs.Refusals.{Told, line, first_of}
 use Rattle.refusal.proofs.Lines.{first_clear, first_pass}
 use Rattle.std.proofs.lemmas.List.{append_assoc, take_at}
-use Rattle.std.proofs.lemmas.Bool.{cond-true, cond-false, lt-ltb, le-ltb, eq-eqb, ne_eqb, leb-false, cases_lt}
-use Rattle.record.specs.Got.{Got, got, refuse, after}
+use Rattle.std.proofs.lemmas.Bool.Decides.{nat_tests}
+use Rattle.std.proofs.lemmas.Bool.{leb-false, cases_lt}
+use Rattle.record.specs.Got.{Got, got, after}
 use Rattle.record.specs.Numbers.{groups, number_bytes, read_groups, read_number, carried}
 use Rattle.record.specs.Writing.{segment_bytes, segments_bytes, record_bytes, joins, faults, or_else}
-use Rattle.record.specs.Reading.{read_segment, read_segments, read_end, read_body, read_record, ahead}
+use Rattle.record.specs.Reading.{read_segment, read_segments, read_end, read_record, ahead}
 use Rattle.record.proofs.Bodies.{to_segments}
+use Rattle.record.proofs.Wholes.{same_kind}
 use Rattle.record.proofs.Groups.{groups_one, groups_suc}
 use Rattle.frame.proofs.Laid.{laid_there}
 use Rattle.frame.specs.Laid.{laid}
@@ -23,11 +25,14 @@ short (suc k) n = short k (n / 128)
 
 read_one : (k n : ℕ) (tail : List ℕ) → n < 128 → read_groups (suc k) (n ∷ tail) ≡ got n tail
 unfolding read_groups
-read_one k n tail l = cond-true (ltb n 128) (got n tail) (carried n (read_groups k tail)) (lt-ltb n 128 l)
+read_one k n tail l = grind (arith, nat_tests)
 
 read_more : (k b : ℕ) (tail : List ℕ) → 128 ≤ b → read_groups (suc k) (b ∷ tail) ≡ carried b (read_groups k tail)
 unfolding read_groups
-read_more k b tail l = cond-false (ltb b 128) (got b tail) (carried b (read_groups k tail)) (le-ltb b 128 l)
+read_more k b tail l = grind (arith, nat_tests)
+
+carried_on : (n : ℕ) (tail : List ℕ) → 128 ≤ n → carried (128 + n % 128) (got (n / 128) tail) ≡ got n tail
+carried_on n tail l = let z : 0 < n / 128 = omega arith in let w : 128 + n % 128 - 128 + 128 * (n / 128) ≡ n = omega arith in grind (arith, nat_tests)
 
 groups_back : (k n : ℕ) (tail : List ℕ) → short k n → read_groups (suc k) (groups k n ++ tail) ≡ got n tail
 groups_back zero n tail l = ap (λ (xs : List ℕ). read_groups 1 (xs ++ tail)) (groups_one 0 n l) ∙ read_one 0 n tail l
@@ -35,13 +40,10 @@ groups_back (suc k) n tail l =
     elim (cases_lt n 128) [
       | inl h ↦ ap (λ (xs : List ℕ). read_groups (suc (suc k)) (xs ++ tail)) (groups_one (suc k) n h) ∙ read_one (suc k) n tail h
       | inr h ↦
-          let z : (n / 128 ≡ 0 → ⊥) = λ e. omega arith in
-          let w : 128 + n % 128 - 128 + 128 * (n / 128) ≡ n = omega arith in
           ap (λ (xs : List ℕ). read_groups (suc (suc k)) (xs ++ tail)) (groups_suc k n h)
           ∙ read_more (suc k) (128 + n % 128) (groups k (n / 128) ++ tail) (omega arith)
           ∙ ap (λ (g : Got ℕ). carried (128 + n % 128) g) (groups_back k (n / 128) tail l)
-          ∙ cond-false (eqb (n / 128) 0) (refuse 26) (got (128 + n % 128 - 128 + 128 * (n / 128)) tail) (ne_eqb (n / 128) 0 z)
-          ∙ ap (λ (x : ℕ). got x tail) w
+          ∙ carried_on n tail h
     ]
 
 -- a number below 2 ^ 35 is read back
@@ -52,7 +54,7 @@ number_back n tail l =
 
 -- no refusal of two: none of either
 neither : (o p : Option Told) → or_else o p ≡ None → (o ≡ None) × (p ≡ None)
-neither (Some t) p e = let z : ◌≡◌ {A = ℕ} 0 1 = cc in absurd (omega arith)
+neither (Some t) p e = cc
 neither None p e = (refl, e)
 
 -- a segment with no fault is read back
@@ -79,9 +81,9 @@ segments_back steps before sum (s ∷ ss) h e =
 -- a record with no fault is read back, where there is room
 pub record_back : (kind steps room : ℕ) (ss : List Segment) → steps ≤ 16 → length ss ≤ 1024 → length ss ≤ room → faults steps steps 0 ss ≡ None
     → read_record kind steps room (record_bytes kind ss) ≡ got ss []
-unfolding read_record record_bytes
+unfolding record_bytes
 record_back kind steps room ss h l m e =
-    cond-true (eqb kind kind) (read_body steps room (number_bytes (length ss) ++ segments_bytes ss)) (refuse 27) (eq-eqb kind kind refl)
+    same_kind kind steps steps room kind (record_bytes kind ss) (number_bytes (length ss) ++ segments_bytes ss) refl refl refl
     ∙ to_segments steps room (length ss) (number_bytes (length ss) ++ segments_bytes ss) (segments_bytes ss) (number_back (length ss) (segments_bytes ss) (omega arith)) l m
     ∙ segments_back steps steps 0 ss h e
 

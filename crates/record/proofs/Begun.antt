@@ -1,86 +1,65 @@
--- The first k segments written, one after the other, behind the kind and the number of segments.
-use Rattle.std.proofs.Common.{◌≡◌, ℕ, zero, suc, ◌+◌, ◌<◌, ◌≤◌, List, [], ◌∷◌, ◌++◌, length, get_or, take, set, sym, refl, ap, ◌∙◌, arith}
+-- The record written: the kind, the number of segments, and then the segments, one after the other.
+use Rattle.std.proofs.Common.{◌≡◌, ℕ, zero, suc, ◌+◌, ◌<◌, ◌≤◌, List, [], ◌∷◌, length, take, set, sym, refl, ap, arith}
 use Rattle.model.specs.declared.segment.Segment.{Segment}
-use Rattle.std.proofs.lemmas.List.{append_assoc, length-append, take_all}
+use Rattle.std.proofs.lemmas.List.{length-append, length-set, take_all}
 use Rattle.record.specs.Numbers.{number_bytes}
 use Rattle.frame.specs.Laid.{laid}
 use Rattle.record.specs.Writing.{segment_bytes, segments_bytes, record_bytes}
-use Rattle.frame.proofs.Laid.{laid_one, laid_on, laid_none}
-use Rattle.record.proofs.Measured.{bytes_more, bytes_of}
+use Rattle.frame.proofs.Laid.{laid_one, laid_none, Put, put_on, put_as}
+use Rattle.record.proofs.Measured.{at, bytes_more, bytes_of}
 
-pub record Begun (start k at : ℕ) (segs : List Segment) (frame now : List ℕ) : Type 0 where
-  pub place : at ≡ start + length (segments_bytes (take k segs))
-  pub bytes : now ≡ laid start (segments_bytes (take k segs)) frame
+-- the first k segments are written behind the head of the record
+pub record Begun (start end k : ℕ) (segs : List Segment) (frame now : List ℕ) : Type 0 where
+  pub put : Put frame now start end (segments_bytes (take k segs))
+  pub room : start + length (segments_bytes segs) ≤ length frame
+  pub long : length now ≡ length frame
 
 taken_le : (k : ℕ) (segs : List Segment) → length (segments_bytes (take k segs)) ≤ length (segments_bytes segs)
 unfolding segments_bytes
 taken_le zero segs = omega arith
 taken_le (suc k) [] = omega arith
 taken_le (suc k) (s ∷ segs) =
-    let h = taken_le k segs in
-    let a = length-append (segment_bytes s) (segments_bytes (take k segs)) in
-    let b = length-append (segment_bytes s) (segments_bytes segs) in
-    omega arith
+    omega (arith, taken_le k segs, length-append (segment_bytes s) (segments_bytes (take k segs)), length-append (segment_bytes s) (segments_bytes segs))
 
 -- there is room for the kind, the number and the segments
-pub room_for : (kind offset at : ℕ) (segs : List Segment) (frame : List ℕ) → offset + length (record_bytes kind segs) ≤ length frame → at ≡ offset + 1 + length (number_bytes (length segs))
-    → (offset < length frame) × (at + length (segments_bytes segs) ≤ length frame)
+pub room_for : (kind offset : ℕ) (segs : List Segment) (frame : List ℕ) → offset + length (record_bytes kind segs) ≤ length frame
+    → offset + 1 + length (number_bytes (length segs)) + length (segments_bytes segs) ≤ length frame
 unfolding record_bytes
-room_for kind offset at segs frame l e =
-    let a = length-append (number_bytes (length segs)) (segments_bytes segs) in
-    (omega arith, omega arith)
+room_for kind offset segs frame l = omega (arith, length-append (number_bytes (length segs)) (segments_bytes segs))
 
 -- there is room for a segment
-pub room_next : (start k at : ℕ) (segs : List Segment) (frame now : List ℕ) (d : Segment) → start + length (segments_bytes segs) ≤ length frame → Begun start k at segs frame now → k < length segs
-    → at + (length (number_bytes (get_or segs k d).step) + length (number_bytes (get_or segs k d).ticks)) ≤ length frame
-room_next start k at segs frame now d l w h =
-    let a = taken_le (k + 1) segs in
-    let b = ap length (bytes_more k segs d h) in
-    let c = length-append (segments_bytes (take k segs)) (segment_bytes (get_or segs k d)) in
-    let e = bytes_of (get_or segs k d) in
-    let p = w.place in
-    omega arith
+pub room_next : {start end k : ℕ} {segs : List Segment} {frame now : List ℕ} → Begun start end k segs frame now → k < length segs
+    → end + (length (number_bytes (at segs k).step) + length (number_bytes (at segs k).ticks)) ≤ length now
+room_next {start} {end} {k} {segs} {frame} {now} w h =
+    omega (arith, w.put.place, w.room, w.long, taken_le (k + 1) segs, ap length (bytes_more k segs h), length-append (segments_bytes (take k segs)) (segment_bytes (at segs k)), bytes_of (at segs k))
 
 -- no segment is written
-pub begun_none : (start : ℕ) (segs : List Segment) (frame : List ℕ) → Begun start 0 start segs frame frame
+pub begun_none : (start : ℕ) (segs : List Segment) (frame : List ℕ) → start + length (segments_bytes segs) ≤ length frame → Begun start start 0 segs frame frame
 unfolding segments_bytes
-begun_none start segs frame = record { place = omega arith; bytes = sym (laid_none start frame) }
+begun_none start segs frame l = record { put = record { place = omega arith; bytes = sym (laid_none start frame) }; room = l; long = refl }
 
 -- one more segment is written
-pub begun_on : (start k at mid end : ℕ) (segs : List Segment) (frame now next last : List ℕ) (d : Segment) → start + length (segments_bytes segs) ≤ length frame
-    → Begun start k at segs frame now → k < length segs
-    → mid ≡ at + length (number_bytes (get_or segs k d).step) → next ≡ laid at (number_bytes (get_or segs k d).step) now
-    → end ≡ mid + length (number_bytes (get_or segs k d).ticks) → last ≡ laid mid (number_bytes (get_or segs k d).ticks) next
-    → Begun start (k + 1) end segs frame last
+pub begun_on : {start end k mid after : ℕ} {segs : List Segment} {frame now next last : List ℕ} → Begun start end k segs frame now → k < length segs
+    → Put now next end mid (number_bytes (at segs k).step) → Put next last mid after (number_bytes (at segs k).ticks) → length next ≡ length now → length last ≡ length next
+    → Begun start after (k + 1) segs frame last
 unfolding segment_bytes
-begun_on start k at mid end segs frame now next last d l w h em et ee el =
-    let was = segments_bytes (take k segs) in
-    let step = number_bytes (get_or segs k d).step in
-    let ticks = number_bytes (get_or segs k d).ticks in
-    let room = room_next start k at segs frame now d l w h in
-    let p = w.place in
-    let a = length-append (segments_bytes (take k segs)) (number_bytes (get_or segs k d).step) in
-    let both : segments_bytes (take (k + 1) segs) ≡ (segments_bytes (take k segs) ++ number_bytes (get_or segs k d).step) ++ number_bytes (get_or segs k d).ticks =
-    bytes_more k segs d h ∙ sym (append_assoc was step ticks) in
+begun_on {start} {end} {k} {mid} {after} {segs} {frame} {now} {next} {last} w h p q m n =
+    let r = room_next w h in
     record {
-      place = let b = ap length both in let c = length-append (was ++ step) ticks in omega arith;
-      bytes =
-          el
-          ∙ ap (λ (xs : List ℕ). laid mid ticks xs) (et ∙ ap (λ (xs : List ℕ). laid at step xs) w.bytes ∙ laid_on start at was step frame p (omega arith))
-          ∙ laid_on start mid (was ++ step) ticks frame (omega arith) (omega arith)
-          ∙ ap (λ (xs : List ℕ). laid start xs frame) (sym both);
+      put =
+          put_as (put_on w.put (put_on p q (omega (arith, p.place))) (omega (arith, w.long)))
+          (sym (bytes_more k segs h));
+      room = w.room;
+      long = omega (arith, w.long);
     }
 
--- the record is written
-pub begun_all : (kind offset start k at : ℕ) (segs : List Segment) (frame first now : List ℕ) → offset + length (record_bytes kind segs) ≤ length frame
-    → start ≡ offset + 1 + length (number_bytes (length segs)) → first ≡ laid (offset + 1) (number_bytes (length segs)) (set frame offset kind)
-    → Begun start k at segs first now → length segs ≤ k
+-- all are written
+pub begun_all : (kind offset : ℕ) (frame : List ℕ) {start end k : ℕ} {segs : List Segment} {first now : List ℕ} → offset + length (record_bytes kind segs) ≤ length frame
+    → Put (set frame offset kind) first (offset + 1) start (number_bytes (length segs)) → Begun start end k segs first now → length segs ≤ k
     → now ≡ laid offset (record_bytes kind segs) frame
 unfolding record_bytes
-begun_all kind offset start k at segs frame first now l e f w h =
-    let r = room_for kind offset start segs frame l e in
-    w.bytes
-    ∙ ap (λ (ss : List Segment). laid start (segments_bytes ss) first) (take_all k segs h)
-    ∙ ap (λ (xs : List ℕ). laid start (segments_bytes segs) xs)
-    (f ∙ ap (λ (xs : List ℕ). laid (offset + 1) (number_bytes (length segs)) xs) (laid_one offset kind frame r.0) ∙ laid_on offset (offset + 1) (kind ∷ []) (number_bytes (length segs)) frame refl (omega (arith, r.0)))
-    ∙ laid_on offset start (kind ∷ number_bytes (length segs)) (segments_bytes segs) frame (omega arith) (omega (arith, r.1))
+begun_all kind offset frame {start} {end} {k} {segs} {first} {now} l p w h =
+    let r = room_for kind offset segs frame l in
+    let s = length-set frame offset kind in
+    let one : Put frame (set frame offset kind) offset (offset + 1) (kind ∷ []) = record { place = refl; bytes = laid_one offset kind frame (omega arith) } in
+    (put_on one (put_on p (put_as w.put (ap segments_bytes (take_all k segs h))) (omega (arith, p.place))) (omega arith)).bytes

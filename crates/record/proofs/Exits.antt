@@ -1,15 +1,11 @@
 -- What is answered where a call inside was refused.
-use Rattle.std.proofs.Common.{◌≡◌, ℕ, List, Err, Result, ap, ◌∙◌}
-use Rattle.refusal.specs.Refusals.{told_of}
+use Rattle.std.proofs.Common.{◌≡◌, Err, Result, ap, ◌∙◌}
+use Rattle.std.specs.Result.{IsErrAnd}
+use Rattle.std.proofs.lemmas.Result.{err_from_is_err_and}
 use Rattle.refusal.specs.declared.refusal.Refusal.{Refusal}
-use Rattle.record.specs.Got.{refused, seen, reply}
-use Rattle.record.specs.Reading.{numbered}
 
-pub seen_err : {X : Type 0} (bytes : List ℕ) (r : Result (X × ℕ) Refusal) (y e : Refusal) → r ≡ Err y → y ≡ e → seen bytes r ≡ refused (told_of e)
-seen_err bytes r y e p q = ap (λ (x : Result _ Refusal). seen bytes x) p ∙ ap (λ (x : Refusal). refused (told_of x)) q
-
-pub reply_err : {X : Type 0} (r : Result X Refusal) (y e : Refusal) → r ≡ Err y → y ≡ e → reply r ≡ Err (told_of e)
-reply_err r y e p q = ap (λ (x : Result _ Refusal). reply x) p ∙ ap (λ (x : Refusal). Err (told_of x)) q
-
-pub numbered_err : (r : Result ℕ Refusal) (y e : Refusal) → r ≡ Err y → y ≡ e → numbered r ≡ (told_of e).number
-numbered_err r y e p q = ap numbered p ∙ ap (λ (x : Refusal). (told_of x).number) q
+-- what is made of the answer is made of the refusal inside
+pub refused_as : {X Y : Type 0} (f : Result X Refusal → Y) (e : Refusal) (r : Result X Refusal) → IsErrAnd r (λ y. y ≡ e) → f r ≡ f (Err e)
+refused_as f e r h =
+    let y = err_from_is_err_and r h in
+    ap f y.1 ∙ ap (λ (x : Refusal). f (Err x)) y.2

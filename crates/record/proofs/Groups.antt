@@ -1,19 +1,20 @@
--- The groups of a number, one after the other: as code that writes them from the lowest on has them.
-use Rattle.std.proofs.Common.{◌≡◌, ℕ, zero, suc, ◌+◌, ◌-◌, ◌/◌, ◌%◌, ◌<◌, ◌≤◌, Bool, true, false, cond, ltb, List, [], ◌∷◌, ◌++◌, length, take, drop, set, sym, ap, ◌∙◌, mod-eq_of_lt, arith}
-use Rattle.std.proofs.lemmas.List.{append_assoc, length-append, length-take, length-take-le, take_more_set, drop-set-lt, drop-drop, set_split}
-use Rattle.std.proofs.lemmas.Bool.{cond-true, cond-false, lt-ltb, le-ltb}
-use Rattle.record.specs.Numbers.{groups}
+-- The groups of a number: how many there are, and each written behind those before it.
+use Rattle.std.proofs.Common.{◌≡◌, ℕ, zero, suc, ◌+◌, ◌-◌, ◌/◌, ◌%◌, ◌<◌, ◌≤◌, List, [], ◌∷◌, ◌++◌, length, get_or, take, drop, set, sym, refl, ap, ◌∙◌, inl, inr, mod-eq_of_lt, arith}
+use Rattle.std.proofs.lemmas.List.{append_assoc, length-append, length-take-le, take_more_set, take_all, length-set, drop_more, set_at}
+use Rattle.std.proofs.lemmas.Bool.Decides.{nat_tests}
+use Rattle.std.proofs.lemmas.Bool.{cases_lt}
+use Rattle.record.specs.Numbers.{groups, number_bytes}
 
 -- a number below 128 is one group
 pub groups_one : (k n : ℕ) → n < 128 → groups k n ≡ n ∷ []
 unfolding groups
 groups_one zero n l = ap (λ (x : ℕ). x ∷ []) (mod-eq_of_lt l)
-groups_one (suc k) n l = cond-true (ltb n 128) (n ∷ []) ((128 + n % 128) ∷ groups k (n / 128)) (lt-ltb n 128 l)
+groups_one (suc k) n l = grind (arith, nat_tests)
 
 -- from 128 on the lowest group has its top bit set, and the others follow
 pub groups_suc : (k n : ℕ) → 128 ≤ n → groups (suc k) n ≡ (128 + n % 128) ∷ groups k (n / 128)
 unfolding groups
-groups_suc k n l = cond-false (ltb n 128) (n ∷ []) ((128 + n % 128) ∷ groups k (n / 128)) (le-ltb n 128 l)
+groups_suc k n l = grind (arith, nat_tests)
 
 -- the same, counted up
 pub groups_more : (k n : ℕ) → k < 4 → 128 ≤ n → groups (4 - k) n ≡ (128 + n % 128) ∷ groups (4 - (k + 1)) (n / 128)
@@ -22,66 +23,95 @@ groups_more k n b l =
     ap (λ (f : ℕ). groups f n) e ∙ groups_suc (4 - (k + 1)) n l
 
 -- the last group that there can be
-pub groups_last : (k n : ℕ) → 4 ≤ k → groups (4 - k) n ≡ (n % 128) ∷ []
+groups_last : (n : ℕ) → groups 0 n ≡ (n % 128) ∷ []
 unfolding groups
-groups_last k n b =
-    let e : 4 - k ≡ 0 = omega arith in
-    ap (λ (f : ℕ). groups f n) e
+groups_last n = refl
+
+-- how long the groups of a number are
+pub long_last : (n : ℕ) → 1 ≡ length (groups 0 n)
+long_last n = sym (ap length (groups_last n))
+
+pub long_one : (k n : ℕ) → n < 128 → 1 ≡ length (groups k n)
+long_one k n l = sym (ap length (groups_one k n l))
+
+pub long_on : (k n m : ℕ) → 128 ≤ n → m ≡ length (groups k (n / 128)) → m + 1 ≡ length (groups (suc k) n)
+long_on k n m l e = let h = ap length (groups_suc k n l) in omega arith
 
 -- there is a group
 pub groups_some : (k n : ℕ) → 0 < length (groups k n)
-unfolding groups
-groups_some zero n = omega arith
-groups_some (suc k) n = some (ltb n 128) n ((128 + n % 128) ∷ groups k (n / 128)) (omega arith)
-  where
-    some : (b : Bool) (n : ℕ) (xs : List ℕ) → 0 < length xs → 0 < length (cond b (n ∷ []) xs)
-    some true n xs l = omega arith
-    some false n xs l = l
+groups_some zero n = omega (arith, long_last n)
+groups_some (suc k) n =
+    elim (cases_lt n 128) [
+      | inl h ↦ omega (arith, long_one (suc k) n h)
+      | inr h ↦ omega (arith, long_on k n _ h refl)
+    ]
 
 -- no more than k + 1
 pub groups_most : (k n : ℕ) → length (groups k n) ≤ k + 1
-unfolding groups
-groups_most zero n = omega arith
-groups_most (suc k) n = most (ltb n 128) k n ((128 + n % 128) ∷ groups k (n / 128)) (let h = groups_most k (n / 128) in omega arith)
-  where
-    most : (b : Bool) (k n : ℕ) (xs : List ℕ) → length xs ≤ suc k + 1 → length (cond b (n ∷ []) xs) ≤ suc k + 1
-    most true k n xs l = omega arith
-    most false k n xs l = l
+groups_most zero n = omega (arith, long_last n)
+groups_most (suc k) n =
+    elim (cases_lt n 128) [
+      | inl h ↦ omega (arith, long_one (suc k) n h)
+      | inr h ↦ omega (arith, long_on k n _ h refl, groups_most k (n / 128))
+    ]
 
--- where k groups are written and some are left, there is room at k
-pub room_at : (k n : ℕ) (xs ns : List ℕ) → take k xs ++ groups (4 - k) n ≡ ns → length ns ≤ length xs → k < length xs
-room_at k n xs ns e l =
-    let a = ap length e in
-    let b = length-append (take k xs) (groups (4 - k) n) in
-    let c = length-take k xs in
-    let d = groups_some (4 - k) n in
-    omega arith
+-- no number takes more than five bytes
+pub number_most : (n m : ℕ) → n ≡ length (number_bytes m) → n ≤ 5
+number_most n m e = omega (arith, groups_most 4 m)
+
+-- where only one group is left, it is the number's lowest
+one_left : (k n : ℕ) → length (groups k n) ≤ 1 → groups k n ≡ (n % 128) ∷ []
+one_left zero n l = groups_last n
+one_left (suc k) n l =
+    elim (cases_lt n 128) [
+      | inl h ↦ groups_one (suc k) n h ∙ ap (λ (x : ℕ). x ∷ []) (sym (mod-eq_of_lt h))
+      | inr h ↦ absurd (omega (arith, long_on k n _ h refl, groups_some k (n / 128)))
+    ]
+
+-- where more are left, it has its top bit set
+more_left : (k n : ℕ) → 1 < length (groups (4 - k) n) → (k < 4) × (128 ≤ n)
+more_left k n l =
+    elim (cases_lt n 128) [
+      | inl h ↦ absurd (omega (arith, long_one (4 - k) n h))
+      | inr h ↦ (omega (arith, groups_most (4 - k) n), h)
+    ]
+
+-- k groups are written, and those of the rest are to come
+pub record Grouped (n k rest : ℕ) (part : List ℕ) : Type 0 where
+  pub bytes : take k part ++ groups (4 - k) rest ≡ number_bytes n
+  pub long : length part + 1 ≡ length (number_bytes n)
+
+-- no group is written
+pub grouped_none : (n last : ℕ) (out : List ℕ) → last + 1 ≡ length (number_bytes n) → last ≤ length out → Grouped n 0 n (take last out)
+grouped_none n last out e l = record { bytes = refl; long = omega (arith, length-take-le last out l) }
+
+-- how many are to come
+to_come : {n k rest : ℕ} {part : List ℕ} → Grouped n k rest part → k ≤ length part → k + length (groups (4 - k) rest) ≡ length part + 1
+to_come {n} {k} {rest} {part} w l = omega (arith, w.long, ap length w.bytes, length-append (take k part) (groups (4 - k) rest), length-take-le k part l)
 
 -- one more group is written
-pub write_more : (k n : ℕ) (xs ns : List ℕ) → k < 4 → 128 ≤ n → k < length xs → take k xs ++ groups (4 - k) n ≡ ns
-    → take (k + 1) (set xs k (128 + n % 128)) ++ groups (4 - (k + 1)) (n / 128) ≡ ns
-write_more k n xs ns b h l e =
-    ap (λ (ys : List ℕ). ys ++ groups (4 - (k + 1)) (n / 128)) (take_more_set xs k (128 + n % 128) l)
-    ∙ append_assoc (take k xs) ((128 + n % 128) ∷ []) (groups (4 - (k + 1)) (n / 128))
-    ∙ ap (λ (ys : List ℕ). take k xs ++ ys) (sym (groups_more k n b h))
-    ∙ e
+pub grouped_on : {n k rest : ℕ} {part : List ℕ} → Grouped n k rest part → k < length part → Grouped n (k + 1) (rest / 128) (set part k (128 + rest % 128))
+grouped_on {n} {k} {rest} {part} w l =
+    let m = more_left k rest (omega (arith, to_come w (omega arith))) in
+    record {
+      bytes =
+          ap (λ (ys : List ℕ). ys ++ groups (4 - (k + 1)) (rest / 128)) (take_more_set part k (128 + rest % 128) l)
+          ∙ append_assoc (take k part) ((128 + rest % 128) ∷ []) (groups (4 - (k + 1)) (rest / 128))
+          ∙ ap (λ (ys : List ℕ). take k part ++ ys) (sym (groups_more k rest m.0 m.1))
+          ∙ w.bytes;
+      long = omega (arith, w.long, length-set part k (128 + rest % 128));
+    }
 
--- what lies behind is as it was
-pub behind : (k a : ℕ) (xs ys : List ℕ) → drop k xs ≡ drop k ys → drop (k + 1) (set xs k a) ≡ drop (k + 1) ys
-behind k a xs ys e =
-    drop-set-lt (k + 1) xs k a (omega arith) ∙ sym (drop-drop 1 k xs) ∙ ap (λ (zs : List ℕ). drop 1 zs) e ∙ drop-drop 1 k ys
-
--- the last group is written
-pub write_last : (k a : ℕ) (xs ys ns : List ℕ) → k < length xs → take k xs ++ (a ∷ []) ≡ ns → drop k xs ≡ drop k ys
-    → (k + 1 ≡ length ns) × (set xs k a ≡ ns ++ drop (length ns) ys)
-write_last k a xs ys ns l e f =
-    let n : k + 1 ≡ length ns = let p = ap length e in let q = length-append (take k xs) (a ∷ []) in let r = length-take-le k xs (omega arith) in omega arith in
-    let s : suc k ≡ k + 1 = omega arith in (
-      n,
-      set_split xs k a l
-          ∙ ap (λ (m : ℕ). take k xs ++ (a ∷ drop m xs)) s
-          ∙ sym (append_assoc (take k xs) (a ∷ []) (drop (k + 1) xs))
-          ∙ ap (λ (zs : List ℕ). zs ++ drop (k + 1) xs) e
-          ∙ ap (λ (zs : List ℕ). ns ++ zs) (sym (drop-drop 1 k xs) ∙ ap (λ (zs : List ℕ). drop 1 zs) f ∙ drop-drop 1 k ys)
-          ∙ ap (λ (m : ℕ). ns ++ drop m ys) n,
-    )
+-- all but the last are written, and then the last
+pub grouped_all : {n k rest : ℕ} {part : List ℕ} → Grouped n k rest part → (last : ℕ) (out : List ℕ) → last ≡ length part → k ≡ last → last < length out
+    → set (part ++ drop last out) last (rest % 128) ≡ number_bytes n ++ drop (length (number_bytes n)) out
+grouped_all {n} {k} {rest} {part} w last out e i l =
+    let m : length (groups (4 - k) rest) ≤ 1 = omega (arith, to_come w (omega arith)) in
+    let j : last + 1 ≡ length (number_bytes n) = omega (arith, w.long) in
+    ap (λ (xs : List ℕ). set (part ++ xs) last (rest % 128)) (drop_more out last 0 l)
+    ∙ set_at part (get_or out last 0) (drop (last + 1) out) (rest % 128) last (sym e)
+    ∙ sym (append_assoc part ((rest % 128) ∷ []) (drop (last + 1) out))
+    ∙ ap (λ (xs : List ℕ). (part ++ xs) ++ drop (last + 1) out) (sym (one_left (4 - k) rest m))
+    ∙ ap (λ (xs : List ℕ). (xs ++ groups (4 - k) rest) ++ drop (last + 1) out) (sym (take_all k part (omega arith)))
+    ∙ ap (λ (xs : List ℕ). xs ++ drop (last + 1) out) w.bytes
+    ∙ ap (λ (x : ℕ). number_bytes n ++ drop x out) j

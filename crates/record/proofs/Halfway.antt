@@ -1,8 +1,7 @@
 -- Halfway through a number: what k bytes with their top bit have given, and what the bytes from there on add to it.
-use Rattle.std.proofs.Common.{◌≡◌, ℕ, suc, ◌+◌, ◌-◌, ◌*◌, ◌/◌, ◌%◌, ◌^◌, ◌<◌, ◌≤◌, Bool, false, cond, ◌&&◌, eqb, ltb, ◌⊎◌, List, ◌∷◌, ◌++◌, length, get_or, drop, sym, refl, ap, ◌∙◌, inl, inr, mul-le-mul_right, mul_assoc, mul_comm, add-mul, pow-suc, arith, lit<}
+use Rattle.std.proofs.Common.{◌≡◌, ℕ, suc, ◌+◌, ◌-◌, ◌*◌, ◌/◌, ◌%◌, ◌^◌, ◌<◌, ◌≤◌, Bool, cond, ◌&&◌, eqb, ltb, List, [], ◌∷◌, ◌++◌, sym, refl, ap, ◌∙◌, mul-le-mul_right, mul_assoc, mul_comm, add-mul, pow-suc, arith, lit<}
 use native.Mathlib.Nat.{pow-le-pow_right}
-use Rattle.std.proofs.lemmas.List.{drop_more, drop_all}
-use Rattle.std.proofs.lemmas.Bool.{cond-true, cond-false, lt-ltb, le-ltb, eq-eqb, ne_eqb, and_from, and_left, and_right, cases_eq}
+use Rattle.std.proofs.lemmas.Bool.Decides.{nat_tests}
 use Rattle.record.specs.Got.{Got, got, refused, refuse}
 use Rattle.record.specs.Numbers.{groups, number_bytes, read_groups, read_number, carried}
 use Rattle.record.proofs.Groups.{groups_one, groups_more}
@@ -12,33 +11,25 @@ abbrev pub placed : Bool → ℕ → ℕ → Got ℕ → Got ℕ
 placed later n scale (got m rest) = cond (later && eqb m 0) (refuse 26) (got (n + m * scale) rest)
 placed later n scale (refused t) = refused t
 
-pub record Halfway (bytes : List ℕ) (start at k n scale : ℕ) : Type 0 where
+pub record Halfway (bytes rest : List ℕ) (k n scale : ℕ) : Type 0 where
   pub scaled : scale ≡ 128 ^ k
   pub small : n < scale
-  pub reads : placed (ltb 0 k) n scale (read_groups (5 - k) (drop at bytes)) ≡ read_number (drop start bytes)
-  pub exact : k < 5 → (m : ℕ) (tail : List ℕ) → (0 < k → 0 < m) → drop at bytes ≡ groups (4 - k) m ++ tail → drop start bytes ≡ number_bytes (n + m * scale) ++ tail
+  pub reads : placed (ltb 0 k) n scale (read_groups (5 - k) rest) ≡ read_number bytes
+  pub exact : k < 5 → (m : ℕ) (tail : List ℕ) → (0 < k → 0 < m) → rest ≡ groups (4 - k) m ++ tail → bytes ≡ number_bytes (n + m * scale) ++ tail
 
-placed_first : (g : Got ℕ) → placed (ltb 0 0) 0 1 g ≡ g
-placed_first (refused t) = refl
-placed_first (got m rest) =
-    let e : 0 + m * 1 ≡ m = omega arith in
-    ap (λ (x : ℕ). got x rest) e
-
-pub at_start : (bytes : List ℕ) (start : ℕ) → Halfway bytes start start 0 0 1
-at_start bytes start = record {
-  scaled = refl;
-  small = omega arith;
-  reads = placed_first (read_groups 5 (drop start bytes));
-  exact = λ l m tail h e. let f : m ≡ 0 + m * 1 = omega arith in e ∙ ap (λ (x : ℕ). number_bytes x ++ tail) f;
-}
-
--- what the bytes from a place on read as
-read_at : (bytes : List ℕ) (at k : ℕ) → k < 5 → at < length bytes
-    → read_groups (5 - k) (drop at bytes) ≡ cond (ltb (get_or bytes at 0) 128) (got (get_or bytes at 0) (drop (at + 1) bytes)) (carried (get_or bytes at 0) (read_groups (5 - (k + 1)) (drop (at + 1) bytes)))
+-- what bytes read as from the first of them on
+read_at : (k b : ℕ) (next : List ℕ) → k < 5
+    → read_groups (5 - k) (b ∷ next) ≡ cond (ltb b 128) (got b next) (carried b (read_groups (5 - (k + 1)) next))
 unfolding read_groups
-read_at bytes at k b l =
+read_at k b next l =
     let e : 5 - k ≡ suc (5 - (k + 1)) = omega arith in
-    ap (λ (f : ℕ). read_groups f (drop at bytes)) e ∙ ap (λ (xs : List ℕ). read_groups (suc (5 - (k + 1))) xs) (drop_more bytes at 0 l)
+    ap (λ (f : ℕ). read_groups f (b ∷ next)) e
+
+ends_at : (k b : ℕ) (next : List ℕ) → k < 5 → b < 128 → read_groups (5 - k) (b ∷ next) ≡ got b next
+ends_at k b next l h = let e = read_at k b next l in grind (arith, nat_tests)
+
+goes_on : (k b : ℕ) (next : List ℕ) → k < 5 → 128 ≤ b → read_groups (5 - k) (b ∷ next) ≡ carried b (read_groups (5 - (k + 1)) next)
+goes_on k b next l h = let e = read_at k b next l in grind (arith, nat_tests)
 
 sums : (n d m scale : ℕ) → n + (d + 128 * m) * scale ≡ n + d * scale + m * (scale * 128)
 sums n d m scale =
@@ -50,23 +41,7 @@ sums n d m scale =
 
 placed_more : (k b n scale : ℕ) (g : Got ℕ) → placed (ltb 0 k) n scale (carried b g) ≡ placed (ltb 0 (k + 1)) (n + (b - 128) * scale) (scale * 128) g
 placed_more k b n scale (refused t) = refl
-placed_more k b n scale (got m rest) =
-    elim (cases_eq m 0) [
-      | inl z ↦
-          ap (λ (g : Got ℕ). placed (ltb 0 k) n scale g) (cond-true (eqb m 0) (refuse 26) (got (b - 128 + 128 * m) rest) (eq-eqb m 0 z))
-          ∙ sym
-          (cond-true (ltb 0 (k + 1) && eqb m 0) (refuse 26) (got (n + (b - 128) * scale + m * (scale * 128)) rest)
-          (and_from (ltb 0 (k + 1)) (eqb m 0) (lt-ltb 0 (k + 1) (omega arith)) (eq-eqb m 0 z)))
-      | inr z ↦
-          let p : (b - 128 + 128 * m ≡ 0 → ⊥) = λ e. z (omega arith) in
-          ap (λ (g : Got ℕ). placed (ltb 0 k) n scale g) (cond-false (eqb m 0) (refuse 26) (got (b - 128 + 128 * m) rest) (ne_eqb m 0 z))
-          ∙ cond-false (ltb 0 k && eqb (b - 128 + 128 * m) 0) (refuse 26) (got (n + (b - 128 + 128 * m) * scale) rest)
-          (and_right (ltb 0 k) (eqb (b - 128 + 128 * m) 0) (ne_eqb (b - 128 + 128 * m) 0 p))
-          ∙ ap (λ (x : ℕ). got x rest) (sums n (b - 128) m scale)
-          ∙ sym
-          (cond-false (ltb 0 (k + 1) && eqb m 0) (refuse 26) (got (n + (b - 128) * scale + m * (scale * 128)) rest)
-          (and_right (ltb 0 (k + 1)) (eqb m 0) (ne_eqb m 0 z)))
-    ]
+placed_more k b n scale (got m rest) = let e = sums n (b - 128) m scale in grind (arith, nat_tests)
 
 -- a byte with its top bit before further groups
 grouped : (k b m : ℕ) → k < 4 → 128 ≤ b → b < 256 → 0 < m → groups (4 - k) (b - 128 + 128 * m) ≡ b ∷ groups (4 - (k + 1)) m
@@ -86,101 +61,69 @@ small_on n b scale l h =
     omega arith
 
 -- one more byte with its top bit
-pub on_by : (bytes : List ℕ) (start at k n scale b : ℕ) → Halfway bytes start at k n scale → k < 5 → at < length bytes → b ≡ get_or bytes at 0 → 128 ≤ b → b < 256
-    → Halfway bytes start (at + 1) (k + 1) (n + (b - 128) * scale) (scale * 128)
-on_by bytes start at k n scale b w l i eb h h' = record {
-  scaled = let e : k + 1 ≡ suc k = omega arith in ap (λ (x : ℕ). x * 128) w.scaled ∙ sym (pow-suc 128 k) ∙ ap (λ (x : ℕ). 128 ^ x) (sym e);
+pub on_by : {bytes rest next : List ℕ} {k n scale b : ℕ} → Halfway bytes rest k n scale → rest ≡ b ∷ next → k < 5 → 128 ≤ b → b < 256
+    → Halfway bytes next (k + 1) (n + (b - 128) * scale) (scale * 128)
+on_by {bytes} {rest} {next} {k} {n} {scale} {b} w e l h h' = record {
+  scaled = let s : k + 1 ≡ suc k = omega arith in ap (λ (x : ℕ). x * 128) w.scaled ∙ sym (pow-suc 128 k) ∙ ap (λ (x : ℕ). 128 ^ x) (sym s);
   small = small_on n b scale w.small h';
   reads =
-      sym (placed_more k b n scale (read_groups (5 - (k + 1)) (drop (at + 1) bytes)))
+      sym (placed_more k b n scale (read_groups (5 - (k + 1)) next))
       ∙ ap (λ (g : Got ℕ). placed (ltb 0 k) n scale g)
-      (sym
-      (read_at bytes at k l i
-      ∙ ap (λ (x : ℕ). cond (ltb x 128) (got x (drop (at + 1) bytes)) (carried x (read_groups (5 - (k + 1)) (drop (at + 1) bytes)))) (sym eb)
-      ∙ cond-false (ltb b 128) (got b (drop (at + 1) bytes)) (carried b (read_groups (5 - (k + 1)) (drop (at + 1) bytes))) (le-ltb b 128 h)))
+      (sym (ap (λ (xs : List ℕ). read_groups (5 - k) xs) e ∙ goes_on k b next l h))
       ∙ w.reads;
-  exact = λ j m tail p e.
+  exact = λ j m tail p f.
       w.exact l (b - 128 + 128 * m) tail (λ _. let q : 0 < m = p (omega arith) in omega arith)
-      (drop_more bytes at 0 i
-      ∙ ap (λ (x : ℕ). x ∷ drop (at + 1) bytes) (sym eb)
-      ∙ ap (λ (xs : List ℕ). b ∷ xs) e
+      (e
+      ∙ ap (λ (xs : List ℕ). b ∷ xs) f
       ∙ ap (λ (xs : List ℕ). xs ++ tail) (sym (grouped k b m (omega arith) h h' (p (omega arith)))))
       ∙ ap (λ (x : ℕ). number_bytes x ++ tail) (sums n (b - 128) m scale);
 }
 
 -- the bytes end
-pub ended : (bytes : List ℕ) (start at k n scale : ℕ) → Halfway bytes start at k n scale → k < 5 → length bytes ≤ at → refuse 25 ≡ read_number (drop start bytes)
+pub ended : {bytes rest : List ℕ} {k n scale : ℕ} → Halfway bytes rest k n scale → rest ≡ [] → k < 5 → refuse 25 ≡ read_number bytes
 unfolding read_groups
-ended bytes start at k n scale w l i =
-    let e : 5 - k ≡ suc (5 - (k + 1)) = omega arith in
-    ap (λ (g : Got ℕ). placed (ltb 0 k) n scale g)
-    (sym (ap (λ (f : ℕ). read_groups f (drop at bytes)) e ∙ ap (λ (xs : List ℕ). read_groups (suc (5 - (k + 1))) xs) (drop_all at bytes i)))
+ended {bytes} {rest} {k} {n} {scale} w e l =
+    let f : 5 - k ≡ suc (5 - (k + 1)) = omega arith in
+    ap (λ (g : Got ℕ). placed (ltb 0 k) n scale g) (sym (ap (λ (xs : List ℕ). read_groups (5 - k) xs) e ∙ ap (λ (x : ℕ). read_groups x []) f))
     ∙ w.reads
 
 -- five bytes have their top bit
-pub overlong : (bytes : List ℕ) (start at k n scale : ℕ) → Halfway bytes start at k n scale → 5 ≤ k → refuse 26 ≡ read_number (drop start bytes)
+pub overlong : {bytes rest : List ℕ} {k n scale : ℕ} → Halfway bytes rest k n scale → 5 ≤ k → refuse 26 ≡ read_number bytes
 unfolding read_groups
-overlong bytes start at k n scale w l =
+overlong {bytes} {rest} {k} {n} {scale} w l =
     let e : 5 - k ≡ 0 = omega arith in
-    ap (λ (g : Got ℕ). placed (ltb 0 k) n scale g) (sym (ap (λ (f : ℕ). read_groups f (drop at bytes)) e)) ∙ w.reads
+    ap (λ (g : Got ℕ). placed (ltb 0 k) n scale g) (sym (ap (λ (f : ℕ). read_groups f rest) e)) ∙ w.reads
 
 -- a byte without its top bit ends the number
-last_at : (bytes : List ℕ) (start at k n scale b : ℕ) → Halfway bytes start at k n scale → k < 5 → at < length bytes → b ≡ get_or bytes at 0 → b < 128
-    → placed (ltb 0 k) n scale (got b (drop (at + 1) bytes)) ≡ read_number (drop start bytes)
-last_at bytes start at k n scale b w l i eb h =
+last_at : {bytes rest next : List ℕ} {k n scale b : ℕ} → Halfway bytes rest k n scale → rest ≡ b ∷ next → k < 5 → b < 128 → placed (ltb 0 k) n scale (got b next) ≡ read_number bytes
+last_at {bytes} {rest} {next} {k} {n} {scale} {b} w e l h =
     ap (λ (g : Got ℕ). placed (ltb 0 k) n scale g)
-    (sym
-    (read_at bytes at k l i
-    ∙ ap (λ (x : ℕ). cond (ltb x 128) (got x (drop (at + 1) bytes)) (carried x (read_groups (5 - (k + 1)) (drop (at + 1) bytes)))) (sym eb)
-    ∙ cond-true (ltb b 128) (got b (drop (at + 1) bytes)) (carried b (read_groups (5 - (k + 1)) (drop (at + 1) bytes))) (lt-ltb b 128 h)))
+    (sym (ap (λ (xs : List ℕ). read_groups (5 - k) xs) e ∙ ends_at k b next l h))
     ∙ w.reads
 
-fewer : (k : ℕ) → k < 5 → k ≤ 4
-fewer k l = omega arith
-
 -- a last byte of 0 after others
-pub padded : (bytes : List ℕ) (start at k n scale b : ℕ) → Halfway bytes start at k n scale → k < 5 → at < length bytes → b ≡ get_or bytes at 0 → 0 < k → b ≡ 0
-    → refuse 26 ≡ read_number (drop start bytes)
-padded bytes start at k n scale b w l i eb p z =
-    sym
-    (cond-true (ltb 0 k && eqb b 0) (refuse 26) (got (n + b * scale) (drop (at + 1) bytes))
-    (and_from (ltb 0 k) (eqb b 0) (lt-ltb 0 k p) (eq-eqb b 0 z)))
-    ∙ last_at bytes start at k n scale b w l i eb (omega arith)
-
--- a last byte
-pub closed : (bytes : List ℕ) (start at k n scale b : ℕ) → Halfway bytes start at k n scale → k < 5 → at < length bytes → b ≡ get_or bytes at 0 → b < 128 → (0 < k → 0 < b)
-    → (got (n + b * scale) (drop (at + 1) bytes) ≡ read_number (drop start bytes))
-    × (n + b * scale < 2 ^ 35)
-    × (drop start bytes ≡ number_bytes (n + b * scale) ++ drop (at + 1) bytes)
-closed bytes start at k n scale b w l i eb h p = (
-  sym (cond-false (ltb 0 k && eqb b 0) (refuse 26) (got (n + b * scale) (drop (at + 1) bytes)) (later (cases_eq k 0)))
-      ∙ last_at bytes start at k n scale b w l i eb h,
-  bounded,
-  w.exact l b (drop (at + 1) bytes) p
-      (drop_more bytes at 0 i
-      ∙ ap (λ (x : ℕ). x ∷ drop (at + 1) bytes) (sym eb)
-      ∙ ap (λ (xs : List ℕ). xs ++ drop (at + 1) bytes) (sym (groups_one (4 - k) b h))),
-)
-  where
-    later : (k ≡ 0) ⊎ (k ≡ 0 → ⊥) → (ltb 0 k && eqb b 0) ≡ false
-    later (inl z) = and_left (ltb 0 k) (eqb b 0) (le-ltb 0 k (omega arith))
-    later (inr z) = and_right (ltb 0 k) (eqb b 0) (ne_eqb b 0 (λ e. let q : 0 < b = p (omega arith) in omega arith))
-
-    bounded : n + b * scale < 2 ^ 35
-    bounded =
-        let s = w.scaled in
-        let t = w.small in
-        let q : 128 ^ k ≤ 128 ^ 4 = pow-le-pow_right (lit< tt) (fewer k l) in
-        let r : b ≤ 127 = omega arith in
-        let u = mul-le-mul_right scale r in
-        omega arith
+pub padded : {bytes rest next : List ℕ} {k n scale b : ℕ} → Halfway bytes rest k n scale → rest ≡ b ∷ next → k < 5 → 0 < k → b ≡ 0 → refuse 26 ≡ read_number bytes
+padded {bytes} {rest} {next} {k} {n} {scale} {b} w e l p z =
+    let h = last_at w e l (omega arith) in grind (arith, nat_tests)
 
 -- what is added and how it is scaled stays within bounds
-pub within : (bytes : List ℕ) (start at k n scale b : ℕ) → Halfway bytes start at k n scale → k < 5 → b < 256 → (scale ≤ 268435456) × (n < 268435456) × (b * scale ≤ 68451041280)
-within bytes start at k n scale b w l h =
+pub within : {bytes rest : List ℕ} {k n scale : ℕ} → Halfway bytes rest k n scale → k < 5 → (b : ℕ) → b < 256 → (scale ≤ 268435456) × (n < 268435456) × (b * scale ≤ b * 268435456)
+within {bytes} {rest} {k} {n} {scale} w l b h =
     let s = w.scaled in
     let t = w.small in
-    let q : 128 ^ k ≤ 128 ^ 4 = pow-le-pow_right (lit< tt) (fewer k l) in
-    let r : b ≤ 255 = omega arith in
-    let u = mul-le-mul_right scale r in
-    (omega arith, omega arith, omega arith)
+    let f : k ≤ 4 = omega arith in
+    let q : 128 ^ k ≤ 128 ^ 4 = pow-le-pow_right (lit< tt) f in
+    let u : scale ≤ 268435456 = omega arith in
+    let v = mul-le-mul_right b u in
+    (u, omega arith, omega (arith, mul_comm b scale))
+
+-- a last byte
+pub closed : {bytes rest next : List ℕ} {k n scale b : ℕ} → Halfway bytes rest k n scale → rest ≡ b ∷ next → k < 5 → b < 128 → (0 < k → 0 < b)
+    → (got (n + b * scale) next ≡ read_number bytes)
+    × (n + b * scale < 2 ^ 35)
+    × (bytes ≡ number_bytes (n + b * scale) ++ next)
+closed {bytes} {rest} {next} {k} {n} {scale} {b} w e l h p = (
+  (let f = last_at w e l h in grind (arith, nat_tests)),
+  (let u = within w l b (omega arith) in omega arith),
+  w.exact l b next p (e ∙ ap (λ (xs : List ℕ). xs ++ next) (sym (groups_one (4 - k) b h))),
+)

@@ -3,11 +3,11 @@ pub mod Groups
 pub mod Halfway
 pub mod Exits
 pub mod Stretches
-pub mod Ticking
-pub mod Sofar
-pub mod Bodies
-pub mod Wholes
 pub mod Measured
 pub mod Begun
+pub mod Bodies
 pub mod Back
 pub mod Written
+pub mod Ticking
+pub mod Sofar
+pub mod Wholes

@@ -1,11 +1,12 @@
 -- One segment read: its step, then its ticks, each with what refuses it there.
-use Rattle.std.proofs.Common.{◌≡◌, ℕ, ◌+◌, ◌<◌, ◌≤◌, ◌||◌, eqb, ltb, leb, List, [], ◌∷◌, ◌++◌, is_some, None, Option, sym, ap, ◌∙◌}
+use Rattle.std.proofs.Common.{◌≡◌, ℕ, ◌+◌, ◌<◌, ◌≤◌, ◌||◌, eqb, ltb, List, [], ◌∷◌, ◌++◌, is_some, None, Option, sym, ap, ◌∙◌, arith}
 use Rattle.model.specs.Plan.{segment}
 use Rattle.model.specs.declared.segment.Segment.{Segment}
 use Rattle.refusal.specs.Refusals.{Told, line, first_of}
 use Rattle.refusal.proofs.Lines.{first_clear}
 use Rattle.std.proofs.lemmas.List.{append_assoc}
-use Rattle.std.proofs.lemmas.Bool.{cond-true, cond-false, le-leb, lt-leb, ltb-false}
+use Rattle.std.proofs.lemmas.Bool.Decides.{nat_tests}
+use Rattle.std.proofs.lemmas.Bool.{ltb-false}
 use Rattle.record.specs.Got.{Got, got, refused, refuse, after}
 use Rattle.record.specs.Numbers.{number_bytes, read_number}
 use Rattle.record.specs.Writing.{joins, segment_bytes, most_ticks}
@@ -21,12 +22,12 @@ after_step steps before sum step bytes rest e = ap (λ (g : Got ℕ). after g (w
 
 pub lacking : (steps before sum step : ℕ) (bytes rest : List ℕ) → got step rest ≡ read_number bytes → steps ≤ step → refuse 21 ≡ read_segment steps before sum bytes
 lacking steps before sum step bytes rest e l =
-    sym (cond-true (leb steps step) (refuse 21) (after (read_number rest) (with_ticks before sum step)) (le-leb steps step l)) ∙ after_step steps before sum step bytes rest e
+    let h = after_step steps before sum step bytes rest e in grind (arith, nat_tests)
 
 at_ticks : (steps before sum step : ℕ) (bytes rest : List ℕ) → got step rest ≡ read_number bytes → step < steps
     → after (read_number rest) (with_ticks before sum step) ≡ read_segment steps before sum bytes
 at_ticks steps before sum step bytes rest e l =
-    sym (cond-false (leb steps step) (refuse 21) (after (read_number rest) (with_ticks before sum step)) (lt-leb steps step l)) ∙ after_step steps before sum step bytes rest e
+    let h = after_step steps before sum step bytes rest e in grind (arith, nat_tests)
 
 pub no_ticks : (steps before sum step : ℕ) (bytes rest : List ℕ) (t : Told) → got step rest ≡ read_number bytes → step < steps → refused t ≡ read_number rest
     → refused t ≡ read_segment steps before sum bytes

@@ -1,9 +1,11 @@
 -- The step at a tick, when one more segment is put at the end of a plan.
-use Rattle.std.proofs.Common.{◌≡◌, ℕ, ◌+◌, ◌-◌, ◌<◌, ◌≤◌, ltb, ◌⊎◌, List, [], ◌∷◌, ◌++◌, sym, refl, ◌∙◌, inl, inr, arith}
+use Rattle.std.proofs.Common.{◌≡◌, ℕ, ◌+◌, ◌-◌, ◌<◌, ◌≤◌, ◌⊎◌, List, [], ◌∷◌, ◌++◌, Some, None, Option, sym, refl, ◌∙◌, inl, inr, arith}
 use Rattle.model.specs.Sums.{sum_of}
 use Rattle.model.specs.Plan.{ticks_of}
 use Rattle.model.specs.declared.segment.Segment.{Segment}
-use Rattle.std.proofs.lemmas.Bool.{cond-true, cond-false, lt-ltb, le-ltb, cases_lt}
+use Rattle.std.proofs.lemmas.Bool.Decides.{nat_tests}
+use Rattle.std.proofs.lemmas.Bool.{cases_lt}
+use Rattle.record.specs.Checks.{Stands}
 use Rattle.record.specs.Reading.{step_at}
 
 pub ticks_push : (ss : List Segment) (s : Segment) → ticks_of (ss ++ (s ∷ [])) ≡ ticks_of ss + s.ticks
@@ -21,11 +23,11 @@ ticks_none = refl
 
 step_here : (x : Segment) (ss : List Segment) (tick : ℕ) → tick < x.ticks → step_at (x ∷ ss) tick ≡ x.step
 unfolding step_at
-step_here x ss tick l = cond-true (ltb tick x.ticks) x.step (step_at ss (tick - x.ticks)) (lt-ltb tick x.ticks l)
+step_here x ss tick l = grind (arith, nat_tests)
 
 step_later : (x : Segment) (ss : List Segment) (tick : ℕ) → x.ticks ≤ tick → step_at (x ∷ ss) tick ≡ step_at ss (tick - x.ticks)
 unfolding step_at
-step_later x ss tick l = cond-false (ltb tick x.ticks) x.step (step_at ss (tick - x.ticks)) (le-ltb tick x.ticks l)
+step_later x ss tick l = grind (arith, nat_tests)
 
 -- a tick that the plan had before keeps its step
 pub step_kept : (ss : List Segment) (s : Segment) (tick : ℕ) → tick < ticks_of ss → step_at (ss ++ (s ∷ [])) tick ≡ step_at ss tick
@@ -55,14 +57,15 @@ step_past (x ∷ ss) tick l =
     let m = ticks_more x ss in
     step_later x ss tick (omega arith) ∙ step_past ss (tick - x.ticks) (omega arith)
 
--- the step found at a tick, one segment on: it is this segment's if those before do not reach the tick
-pub found_on : (ss : List Segment) (s : Segment) (tick ticks step next : ℕ) → ticks ≡ ticks_of ss → (ticks ≤ tick) ⊎ (step ≡ step_at ss tick)
-    → ((ticks ≤ tick) × (next ≡ s.step)) ⊎ ((tick < ticks) × (next ≡ step))
-    → (ticks + s.ticks ≤ tick) ⊎ (next ≡ step_at (ss ++ (s ∷ [])) tick)
-found_on ss s tick ticks step next e f (inl w) =
-    elim (cases_lt tick (ticks + s.ticks)) [
-      | inl h ↦ inr (w.1 ∙ sym (step_last ss s tick (omega (arith, w.0)) (omega arith)))
-      | inr h ↦ inl h
-    ]
-found_on ss s tick ticks step next e (inl h) (inr w) = absurd (omega (arith, w.0))
-found_on ss s tick ticks step next e (inr h) (inr w) = inr (w.1 ∙ h ∙ sym (step_kept ss s tick (omega (arith, w.0))))
+-- the step found at a tick, one segment on: it is kept where the tick is not this segment's
+pub stands_kept : (steps tick : ℕ) (ss : List Segment) (s : Segment) (o : Option ℕ) → Stands steps tick ss o → (tick < ticks_of ss) ⊎ (ticks_of ss + s.ticks ≤ tick)
+    → Stands steps tick (ss ++ (s ∷ [])) o
+stands_kept steps tick ss s None h (inl l) = absurd (omega arith)
+stands_kept steps tick ss s None h (inr l) = omega (arith, ticks_push ss s)
+stands_kept steps tick ss s (Some x) h (inl l) = (omega (arith, ticks_push ss s), h.1 ∙ sym (step_kept ss s tick l), h.2)
+stands_kept steps tick ss s (Some x) h (inr l) = absurd (omega (arith, h.0))
+
+-- and otherwise it is this segment's
+pub stands_here : (steps tick : ℕ) (ss : List Segment) (s : Segment) → s.step < steps → ticks_of ss ≤ tick → tick < ticks_of ss + s.ticks
+    → Stands steps tick (ss ++ (s ∷ [])) (Some s.step)
+stands_here steps tick ss s b l h = (omega (arith, ticks_push ss s), sym (step_last ss s tick l h), b)

@@ -17,10 +17,10 @@ abbrev pub after : {X Y : Type 0} → Got X → (X → List ℕ → Got Y) → G
 after (got x rest) f = f x rest
 after (refused t) f = refused t
 
--- what code that reads at a place in the bytes answers: a value and the next place, or a refusal
-abbrev pub seen : {X : Type 0} → List ℕ → Result (X × ℕ) Refusal → Got X
-seen bytes (Ok p) = got p.0 (drop p.1 bytes)
-seen bytes (Err e) = refused (told_of e)
+-- what code that reads bytes answers, with the bytes that it leaves: a value, or a refusal
+abbrev pub seen : {X : Type 0} → List ℕ → Result X Refusal → Got X
+seen rest (Ok x) = got x rest
+seen rest (Err e) = refused (told_of e)
 
 -- a call's answer, with what its refusal tells
 abbrev pub reply : {X : Type 0} → Result X Refusal → Result X Told

@@ -3,6 +3,7 @@ ghost use Rattle.std.specs.Prelude.{◌≡◌, ◌≤◌, IfOk};
 ghost use Rattle.record.specs.Reading.{machine_answer, numbered, read_any};
 
 use crate::check::check;
+use crate::numbers::Reader;
 use refusal::refusal::Refusal;
 
 // The first number that a kind of processor may have.
@@ -13,18 +14,13 @@ fn step_at(record: &[u8], tick: u64) -> Result<usize, Refusal>
     ensures low { IfOk result (λ n. n ≤ 16) }
     ensures answer { numbered result ≡ machine_answer (read_any «record».now) tick }
 {
-    if record.len() == 0 {
-        return Err(Refusal::Ended);
-    }
-    let kind = record[0];
-    if kind < FIRST_KIND || kind > 127 {
+    let mut reader = Reader { rest: record };
+    let kind = reader.read_byte()?;
+    if !(FIRST_KIND..=127).contains(&kind) {
         return Err(Refusal::Kind);
     }
-    let passed = check(record, 1, 16, 1024, tick)?;
-    if passed.ticks <= tick {
-        return Err(Refusal::Past);
-    }
-    Ok(passed.step)
+    let passed = check(reader.rest, 16, 1024, tick)?;
+    passed.step.ok_or(Refusal::Past)
 }
 
 // The step at a tick of a record, 0 to 15, or the number of the refusal.

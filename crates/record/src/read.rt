@@ -5,6 +5,7 @@ ghost use Rattle.record.specs.Reading.{read_record};
 ghost use Rattle.record.specs.Writing.{record_bytes};
 
 use crate::check::{check, fill};
+use crate::numbers::Reader;
 use model::segment::Segment;
 use processor::processor::Processor;
 use refusal::refusal::Refusal;
@@ -20,14 +21,13 @@ pub fn read<P: Processor>(
     ensures after { buffer.new ≡ filled (read_record P.Processor.bears (length (P.Processor.steps processor.now)) (length buffer.old) (drop offset frame.now)) buffer.old }
     ensures exact { IfOk result (λ n. drop offset frame.now ≡ record_bytes P.Processor.bears (take n buffer.new)) }
 {
-    if offset >= frame.len() {
-        return Err(Refusal::Ended);
-    }
-    if frame[offset] != processor.kind_number() {
+    let mut reader = Reader::at(frame, offset);
+    let kind = reader.read_byte()?;
+    if kind != processor.kind_number() {
         return Err(Refusal::Kind);
     }
     let steps = processor.count();
-    let passed = check(frame, offset + 1, steps, buffer.len(), 0)?;
-    fill(frame, passed.first, steps, passed.count, buffer);
+    let passed = check(reader.rest, steps, buffer.len(), 0)?;
+    fill(passed.segments, steps, &mut buffer[..passed.count]);
     Ok(passed.count)
 }

@@ -1,53 +1,76 @@
 // One segment of a record.
-ghost use Rattle.std.specs.Prelude.{◌≡◌, ◌+◌, ◌<◌, ◌≤◌, ◌++◌, drop, IfOk};
+ghost use Rattle.std.specs.Prelude.{◌≡◌, ◌+◌, ◌<◌, ◌≤◌, ◌++◌, IfOk};
 ghost use Rattle.record.specs.Got.{seen};
 ghost use Rattle.record.specs.Reading.{read_segment};
-ghost use Rattle.record.specs.Writing.{joins, segment_bytes};
+ghost use Rattle.record.specs.Writing.{joins, most_ticks, segment_bytes};
 ghost use Rattle.refusal.specs.Refusals.{outcome, first_of};
 
-use crate::numbers::read_number;
+use crate::numbers::Reader;
 use model::segment::Segment;
 use refusal::refusal::Refusal;
 
 // The most ticks that a plan can have.
 const MOST_TICKS: u64 = 1_008_000_000;
 
-// Whether a segment may stand after a step and a sum of ticks.
-pub(crate) fn joins(before: usize, sum: u64, segment: Segment) -> Result<(), Refusal>
-    requires { sum ≤ 1008000000 }
-    ensures { outcome result ≡ first_of (joins before sum segment) }
-{
-    if segment.ticks == 0 || segment.step == before {
-        return Err(Refusal::Repeated);
-    }
-    if segment.ticks > MOST_TICKS - sum {
-        return Err(Refusal::Ticks);
-    }
-    Ok(())
+// How far a plan has come: the steps of its processor, the step of its last segment, and the ticks of all.
+#[derive(Clone, Copy)]
+pub(crate) struct Tail {
+    pub(crate) steps: usize,
+    pub(crate) step: usize,
+    pub(crate) ticks: u64,
+    ghost short: { ticks ≤ most_ticks },
 }
 
-// Reads the segment at a place, of a processor of so many steps, after a step and a sum of ticks, and answers it with the place after it.
-pub(crate) fn read_segment(
-    bytes: &[u8],
-    at: usize,
-    steps: usize,
-    before: usize,
-    sum: u64,
-) -> Result<(Segment, usize), Refusal>
-    requires { sum ≤ 1008000000 }
-    ensures reads { seen bytes.now result ≡ read_segment steps before sum (drop at bytes.now) }
-    ensures low { IfOk result (λ p. p.0.step < steps) }
-    ensures exact { IfOk result (λ p. (sum + p.0.ticks ≤ 1008000000) × (drop at bytes.now ≡ segment_bytes p.0 ++ drop p.1 bytes.now)) }
-{
-    let (step, middle) = read_number(bytes, at)?;
-    if step >= steps as u64 {
-        return Err(Refusal::Lacking);
+impl Tail {
+    // Before the first segment; the step is one that is lacking, so that none repeats it.
+    pub(crate) fn start(steps: usize) -> Tail
+        ensures steps { result.steps ≡ steps }
+        ensures first { (result.step ≡ steps) × (result.ticks ≡ 0) }
+    {
+        Tail {
+            steps,
+            step: steps,
+            ticks: 0,
+        }
     }
-    let (ticks, end) = read_number(bytes, middle)?;
-    let segment = Segment {
-        step: step as usize,
-        ticks,
-    };
-    joins(before, sum, segment)?;
-    Ok((segment, end))
+
+    // Goes on by a segment, if it may stand next.
+    pub(crate) fn add(&mut self, segment: Segment) -> Result<(), Refusal>
+        ensures answer { outcome result ≡ first_of (joins self.old.step self.old.ticks segment) }
+        ensures steps { self.new.steps ≡ self.old.steps }
+        ensures after { IfOk result (λ _. (self.new.step ≡ segment.step) × (self.new.ticks ≡ self.old.ticks + segment.ticks)) }
+    {
+        if segment.ticks == 0 || segment.step == self.step {
+            return Err(Refusal::Repeated);
+        }
+        if segment.ticks > MOST_TICKS - self.ticks {
+            return Err(Refusal::Ticks);
+        }
+        self.step = segment.step;
+        self.ticks += segment.ticks;
+        Ok(())
+    }
+}
+
+impl<'a> Reader<'a> {
+    // Reads the next segment of a plan that has come so far.
+    pub(crate) fn read_segment(&mut self, tail: &mut Tail) -> Result<Segment, Refusal>
+        ensures reads { seen self.new.rest.now result ≡ read_segment tail.old.steps tail.old.step tail.old.ticks self.old.rest.now }
+        ensures steps { tail.new.steps ≡ tail.old.steps }
+        ensures low { IfOk result (λ s. s.step < tail.old.steps) }
+        ensures exact { IfOk result (λ s. self.old.rest.now ≡ segment_bytes s ++ self.new.rest.now) }
+        ensures after { IfOk result (λ s. (tail.new.step ≡ s.step) × (tail.new.ticks ≡ tail.old.ticks + s.ticks)) }
+    {
+        let step = self.read_number()?;
+        if step >= tail.steps as u64 {
+            return Err(Refusal::Lacking);
+        }
+        let ticks = self.read_number()?;
+        let segment = Segment {
+            step: step as usize,
+            ticks,
+        };
+        tail.add(segment)?;
+        Ok(segment)
+    }
 }

@@ -6,7 +6,7 @@ ghost use Rattle.record.specs.Reading.{read_record};
 ghost use Rattle.record.specs.Writing.{passed, record_bytes, write_answer};
 
 use crate::numbers::{number_length, put_number};
-use crate::segments::joins;
+use crate::segments::Tail;
 use model::segment::Segment;
 use processor::processor::Processor;
 use refusal::refusal::Refusal;
@@ -19,17 +19,13 @@ fn measure(steps: usize, segments: &[Segment]) -> Result<usize, Refusal>
         return Err(Refusal::Segments);
     }
     let mut length = 1 + number_length(segments.len() as u64);
-    let mut before = steps;
-    let mut ticks = 0;
-    for k in 0..segments.len() {
-        let segment = segments[k];
+    let mut tail = Tail::start(steps);
+    for segment in segments {
         if segment.step >= steps {
             return Err(Refusal::Lacking);
         }
-        joins(before, ticks, segment)?;
+        tail.add(*segment)?;
         length += number_length(segment.step as u64) + number_length(segment.ticks);
-        ticks += segment.ticks;
-        before = segment.step;
     }
     Ok(length)
 }
@@ -41,9 +37,9 @@ fn put(frame: &mut [u8], offset: usize, kind: u8, segments: &[Segment])
 {
     frame[offset] = kind;
     let mut at = put_number(frame, offset + 1, segments.len() as u64);
-    for k in 0..segments.len() {
-        at = put_number(frame, at, segments[k].step as u64);
-        at = put_number(frame, at, segments[k].ticks);
+    for segment in segments {
+        at = put_number(frame, at, segment.step as u64);
+        at = put_number(frame, at, segment.ticks);
     }
 }
 
@@ -59,7 +55,7 @@ pub fn write<P: Processor>(
     ensures back { IfOk result (λ n. (room : ℕ) → length segments.now ≤ room → read_record P.Processor.bears (length (P.Processor.steps processor.now)) room (take n (drop offset frame.new)) ≡ got segments.now []) }
 {
     let length = measure(processor.count(), segments)?;
-    if offset > frame.len() || frame.len() - offset < length {
+    if frame.len().saturating_sub(offset) < length {
         return Err(Refusal::Frame { bytes: length });
     }
     put(frame, offset, processor.kind_number(), segments);

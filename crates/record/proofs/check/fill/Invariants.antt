@@ -1,11 +1,7 @@
-use Rattle.std.proofs.Common.{◌≡◌, List, ◌++◌, drop}
-use Rattle.model.specs.declared.segment.Segment.{Segment}
+use Rattle.std.proofs.Common.{length, take}
 use Rattle.record.proofs.Sofar.{Sofar}
 use Rattle.record.proofs.check.fill.Given as goal
 
--- the segments so far stand in the buffer
-abbrev pub invariant-loop-k : goal.invariant-loop-k
-invariant-loop-k l =
-    (ss : List Segment)
-    × Sofar l.bytes l.first l.steps l.count l.k l.at l.before l.ticks ss
-    × (l.buffer ≡ ss ++ drop l.k l.initial.buffer)
+-- the segments so far stand in the part
+abbrev pub invariant-loop-slot : goal.invariant-loop-slot
+invariant-loop-slot l = Sofar l.segments l.reader.rest.now l.steps (length l.initial.part) l.slot-index l.tail (take l.slot-index l.part)

@@ -1,6 +1,6 @@
 use Rattle.record.proofs.Begun.{Begun}
 use Rattle.record.proofs.write.put.Given as goal
 
--- the first k segments are written
-abbrev pub invariant-loop-k : goal.invariant-loop-k
-invariant-loop-k l = Begun l.initial.at l.k l.at l.segments l.initial.frame l.frame
+-- the segments before this one are written
+abbrev pub invariant-loop-segment : goal.invariant-loop-segment
+invariant-loop-segment l = Begun l.initial.at l.at l.segment-index l.segments l.initial.frame l.frame
