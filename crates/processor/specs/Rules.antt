@@ -21,6 +21,10 @@ odd_at Powers s i = nat_lt 1000000 (power_at s i) || (nat_lt 0 i && nat_lt (powe
 odd_at Gaps s i = nat_lt 0 i && not (unit % gap s (i - 1) == 0)
 odd_at Bends s i = nat_lt 1 i && nat_lt (climb s (i - 1) * gap s (i - 2)) (climb s (i - 2) * gap s (i - 1))
 
+-- whether the last step is at odds with those before it
+abbrev pub odd_last : Rule → List Step → Bool
+odd_last r s = odd_at r s (length s - 1)
+
 -- the number that a broken rule is refused with
 abbrev pub rule_number : Rule → ℕ
 rule_number Speeds = 2

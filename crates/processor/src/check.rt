@@ -1,7 +1,6 @@
 // The rules tried on steps, rule by rule.
-ghost use Rattle.std.specs.Prelude.{◌≡◌, ◌+◌, ◌<◌, length};
-ghost use Rattle.model.specs.Steps.{gap, climb};
-ghost use Rattle.processor.specs.Rules.{odd_at, odd_step, rule_number, rule_lines};
+ghost use Rattle.std.specs.Prelude.{◌≡◌};
+ghost use Rattle.processor.specs.Rules.{odd_last, odd_step, rule_number, rule_lines};
 ghost use Rattle.processor.specs.declared.rule.Rule.TheVariants.{Speeds, Powers, Gaps, Bends};
 ghost use Rattle.refusal.specs.Refusals.{told, told_of, outcome, first_of};
 
@@ -9,81 +8,67 @@ use crate::rule::Rule;
 use model::step::Step;
 use refusal::refusal::Refusal;
 
-// How much faster the step after `i` is.
-#[tactic(auto, unfolding(model::specs::Steps::gap, model::specs::Steps::speed_at))]
-fn gap(steps: &[Step], i: usize) -> u64
-    requires { i + 1 < length steps.now }
-    ensures { result ≡ gap steps.now i }
-{
-    steps[i + 1].speed.saturating_sub(steps[i].speed)
-}
-
-// How much more power the step after `i` takes.
-#[tactic(auto, unfolding(model::specs::Steps::climb, model::specs::Steps::power_at))]
-fn climb(steps: &[Step], i: usize) -> u64
-    requires { i + 1 < length steps.now }
-    ensures { result ≡ climb steps.now i }
-{
-    steps[i + 1].power.saturating_sub(steps[i].power)
-}
-
+// Whether the last speed is at odds: above 4,000, or not above the one before, or, as the first, not 0.
 #[tactic(auto, using(std::proofs::lemmas::Bool::Decides::nat_tests), unfolding(crate::specs::Rules::odd_at, model::specs::Steps::speed_at))]
-fn odd_speed(steps: &[Step], i: usize) -> bool
-    requires { i < length steps.now }
-    ensures { result ≡ odd_at Speeds steps.now i }
+fn odd_speed(front: &[Step]) -> bool
+    ensures { result ≡ odd_last Speeds front.now }
 {
-    let speed = steps[i].speed;
-    if i == 0 {
-        return speed > 4000 || speed > 0;
+    match front {
+        [.., before, last] => last.speed > 4000 || last.speed <= before.speed,
+        [first] => first.speed > 0,
+        [] => false,
     }
-    speed > 4000 || speed <= steps[i - 1].speed
 }
 
+// Whether the last power is at odds: above 1,000,000, or below the one before.
 #[tactic(auto, using(std::proofs::lemmas::Bool::Decides::nat_tests), unfolding(crate::specs::Rules::odd_at, model::specs::Steps::power_at))]
-fn odd_power(steps: &[Step], i: usize) -> bool
-    requires { i < length steps.now }
-    ensures { result ≡ odd_at Powers steps.now i }
+fn odd_power(front: &[Step]) -> bool
+    ensures { result ≡ odd_last Powers front.now }
 {
-    let power = steps[i].power;
-    power > 1000000 || (i > 0 && power < steps[i - 1].power)
+    match front {
+        [.., before, last] => last.power > 1_000_000 || last.power < before.power,
+        [first] => first.power > 1_000_000,
+        [] => false,
+    }
 }
 
-#[tactic(auto, using(std::proofs::lemmas::Bool::Decides::nat_tests), unfolding(crate::specs::Rules::odd_at))]
-fn odd_gap(steps: &[Step], i: usize) -> bool
-    requires { i < length steps.now }
-    ensures { result ≡ odd_at Gaps steps.now i }
+// Whether the last gap between speeds does not divide 5,040.
+#[tactic(auto, using(std::proofs::lemmas::Bool::Decides::nat_tests), unfolding(crate::specs::Rules::odd_at, model::specs::Steps::gap, model::specs::Steps::speed_at))]
+fn odd_gap(front: &[Step]) -> bool
+    ensures { result ≡ odd_last Gaps front.now }
 {
-    if i == 0 {
+    let [.., before, last] = front else {
         return false;
-    }
-    let gap = gap(steps, i - 1);
+    };
+    let gap = last.speed.saturating_sub(before.speed);
     gap == 0 || 5040 % gap != 0
 }
 
-#[tactic(auto, using(std::proofs::lemmas::Bool::Decides::nat_tests), unfolding(crate::specs::Rules::odd_at))]
-fn odd_bend(steps: &[Step], i: usize) -> bool
-    requires { i < length steps.now }
-    ensures { result ≡ odd_at Bends steps.now i }
+// Whether power rises less for its speed up to the last step than up to the one before.
+#[tactic(auto, using(std::proofs::lemmas::Bool::Decides::nat_tests), unfolding(crate::specs::Rules::odd_at, model::specs::Steps::gap, model::specs::Steps::climb, model::specs::Steps::speed_at, model::specs::Steps::power_at))]
+fn odd_bend(front: &[Step]) -> bool
+    ensures { result ≡ odd_last Bends front.now }
 {
-    if i < 2 {
+    let [.., first, middle, last] = front else {
         return false;
-    }
-    let rise = u128::from(climb(steps, i - 1)) * u128::from(gap(steps, i - 2));
-    let before = u128::from(climb(steps, i - 2)) * u128::from(gap(steps, i - 1));
-    rise < before
+    };
+    let slower = middle.speed.saturating_sub(first.speed);
+    let faster = last.speed.saturating_sub(middle.speed);
+    let less = middle.power.saturating_sub(first.power);
+    let more = last.power.saturating_sub(middle.power);
+    u128::from(more) * u128::from(slower) < u128::from(less) * u128::from(faster)
 }
 
 impl Rule {
-    // Whether step `i` is at odds with those before it.
-    fn odd_at(self, steps: &[Step], i: usize) -> bool
-        requires { i < length steps.now }
-        ensures { result ≡ odd_at self steps.now i }
+    // Whether the last of these steps is at odds with those before it.
+    fn odd_last(self, front: &[Step]) -> bool
+        ensures { result ≡ odd_last self front.now }
     {
         match self {
-            Rule::Speeds => odd_speed(steps, i),
-            Rule::Powers => odd_power(steps, i),
-            Rule::Gaps => odd_gap(steps, i),
-            Rule::Bends => odd_bend(steps, i),
+            Rule::Speeds => odd_speed(front),
+            Rule::Powers => odd_power(front),
+            Rule::Gaps => odd_gap(front),
+            Rule::Bends => odd_bend(front),
         }
     }
 
@@ -91,7 +76,7 @@ impl Rule {
     fn first_odd(self, steps: &[Step]) -> Option<usize>
         ensures { result ≡ odd_step self steps.now }
     {
-        (0..steps.len()).find(|i| self.odd_at(steps, *i))
+        (0..steps.len()).find(|i| self.odd_last(&steps[..*i + 1]))
     }
 
     // The refusal of steps of which this one is at odds with the rule.
