@@ -73,6 +73,7 @@ fn cut_at(standing: Standing<'_>, before: Fronts, after: Fronts, t: u64) -> Cut
 // All cuts of standing jobs, in order.
 pub fn survey(standing: Standing<'_>) -> ArrayVec<Cut, 513>
     ensures cuts { result.items ≡ survey standing.entry.jobs.now }
+    ensures most { array_vec_len result ≤ 513 }
     ensures each { array_vec_len result ≤ 2 * length standing.entry.jobs.now + 1 }
 {
     let mut cuts = ArrayVec::new();

@@ -20,6 +20,14 @@ returns-then-after-standing-clause-cuts c =
     ∙ at_end c.args.standing.jobs.now (ordered_from c.args.standing.jobs.now c.args.standing.order) c.loop-after.cuts.items c.loop-after.t c.loop-after.before
     c.advance-after.result c.cut_at.result c.loop-after.invariant c.advance-after.ensures c.cut_at.ensures c.if-after-standing.true
 
+pub returns-then-after-standing-clause-most : goal.returns-then-after-standing-clause-most
+returns-then-after-standing-clause-most c =
+    let l = cuts_length c.args.standing.jobs.now in
+    let m = c.loop-after.invariant.more in
+    let p = c.push.ensures.len in
+    let f = c.args.standing.few in
+    omega arith
+
 pub returns-then-after-standing-clause-each : goal.returns-then-after-standing-clause-each
 returns-then-after-standing-clause-each c =
     let l = cuts_length c.args.standing.jobs.now in
