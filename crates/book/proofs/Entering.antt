@@ -1,6 +1,6 @@
 -- Enter, strike, plan, take and release, by their outcomes.
 use Rattle.std.proofs.Common.{◌≡◌, ℕ, ◌-◌, true, false, cond, eqb, List, [], ◌∷◌, ◌++◌, length, take, drop, is_some, is_ok, IfOk, Some, None, Ok, Err, Option, Result, sym, refl, ap, ◌∙◌, subst}
-use Rattle.std.proofs.lemmas.Bool.{or_left, or_right, or_from, not_from_true, not_from_false, eq-eqb, ne_eqb}
+use Rattle.std.proofs.lemmas.Bool.{or_from, not_from_true, eq-eqb, ne_eqb}
 use Rattle.model.specs.Steps.{Lawful}
 use Rattle.model.specs.Plan.{plan}
 use Rattle.model.specs.Charges.{cost}
@@ -80,13 +80,6 @@ plan_made s steps buffer filled (Ok p) k h e f g =
     ∙ ap (λ (w : List Segment). planned (length (plan steps s.jobs)) (cost steps s.jobs) w) g))
 plan_made s steps buffer filled (Err w) k h e f g =
     refused_step s (plans steps buffer) (told_of w) k (first_pass (open_line s) (plan_lines steps s.jobs (length buffer)) h ∙ sym e)
-
--- a slip that is refused: another book's, and one where no hold is open
-pub slip_foreign : (s : State) (n : ℕ) → (n ≡ s.number → ⊥) → first_of (slip_line s n ∷ []) ≡ Some (told 15 0)
-slip_foreign s n h = first_hit (slip_line s n) [] (or_right _ _ (not_from_false _ (ne_eqb _ _ h)))
-
-pub slip_idle : (s : State) (n : ℕ) → is_some s.held ≡ false → first_of (slip_line s n ∷ []) ≡ Some (told 15 0)
-slip_idle s n h = first_hit (slip_line s n) [] (or_left _ _ (not_from_false _ h))
 
 pub take_stopped : (s t : State) (n : ℕ) → t ≡ s → first_of (slip_line s n ∷ []) ≡ Some (told 15 0) → Step s t (takes n) (refused (told 15 0))
 unfolding lines

@@ -49,13 +49,6 @@ module _ (steps : List Step) (jobs : List Job) where
       → owing steps jobs rows at (drop k ss) a ≡ owing steps jobs rows at (get_or ss k no_segment ∷ drop (k + 1) ss) a
   owing_next rows at ss k a l = at_drop_more (λ (ts : List Segment). owing steps jobs rows at ts a) ss k no_segment l
 
-  -- one segment settled: what is paid and owed from then on is still what was owed at first
-  pub owing_on : (first rows after : List ℕ) (start at to : Cursor) (ss : List Segment) (k a : ℕ) → k < length ss
-      → owing steps jobs rows at (drop k ss) a ≡ owing steps jobs first start ss a
-      → owing steps jobs after to (drop (k + 1) ss) a ≡ owing steps jobs rows at (get_or ss k no_segment ∷ drop (k + 1) ss) a
-      → owing steps jobs after to (drop (k + 1) ss) a ≡ owing steps jobs first start ss a
-  owing_on first rows after start at to ss k a l i e = e ∙ (sym (owing_next rows at ss k a l) ∙ i)
-
   -- all segments settled: each row has risen by its account's charge
   pub all_paid : (first rows : List ℕ) (at : Cursor) (ss : List Segment) (k a : ℕ) → length ss ≤ k
       → owing steps jobs rows at (drop k ss) a ≡ owing steps jobs first (record { job = 0; grain = 0 }) ss a

@@ -43,12 +43,6 @@ rest_at jobs a i l =
     let n = ap (λ (xs : List Job). length xs) t in
     (omega arith, ap (λ (xs : List Job). get_or xs i no_job) t ∙ get_or-drop a jobs i no_job)
 
-pub rest_length : (jobs : List Job) (a : ℕ) → a ≤ length jobs → a + length (take (length jobs - a) (drop a jobs)) ≡ length jobs
-rest_length jobs a l =
-    let d = length-drop a jobs in
-    let n = ap (λ (xs : List Job). length xs) (take_all (length jobs - a) (drop a jobs) (omega arith)) in
-    omega arith
-
 -- the height of the ceiling
 pub ceiling_is : (jobs : List Job) (t : ℕ) (f : Front) → Before true jobs t f → f.work ≡ ceiling jobs t
 ceiling_is jobs t f b =
