@@ -48,9 +48,9 @@ impl Ladder {
         if count < 2 || count > 16 {
             return Err(Refusal::Count);
         }
-        check(steps)?;
         let mut places = [IDLE; 16];
         places[..count].copy_from_slice(steps);
+        check(&places[..count])?;
         Ok(Ladder {
             steps: places,
             count,

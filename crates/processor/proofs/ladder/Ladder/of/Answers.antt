@@ -1,9 +1,10 @@
-use Rattle.std.proofs.Common.{rules, Ok}
+use Rattle.std.proofs.Common.{Ok, arith}
+use Rattle.std.proofs.lemmas.Grind.{common_steps}
 use Rattle.processor.proofs.Exact.{exact}
 use Rattle.processor.proofs.ladder.Ladder.of.Goals as goal
 
 pub returns-in_err-check-clause-exact : goal.returns-in_err-check-clause-exact
-returns-in_err-check-clause-exact c = exact c.from_residual.result c.args.steps.now (search rules)
+returns-in_err-check-clause-exact c = exact c.from_residual.result c.args.steps.now (grind (arith, common_steps))
 
 pub returns-clause-exact : goal.returns-clause-exact
-returns-clause-exact c = exact {X = Unit {0}} (Ok tt) c.args.steps.now (search rules)
+returns-clause-exact c = exact {X = Unit {0}} (Ok tt) c.args.steps.now (grind (arith, common_steps))
