@@ -1,10 +1,10 @@
 // Making ladders and formulas.
 ghost use Rattle.std.specs.Prelude.{◌≡◌, ◌≤◌, true, [], ◌∷◌, length, is_ok, IfOk, MatchResult};
-ghost use Rattle.processor.specs.Rules.{paired, listed, ladder_refusal};
+ghost use Rattle.processor.specs.Rules.{paired, listed, ladder_refusal, step_lines};
 ghost use Rattle.processor.specs.Formulas.{formula_refusal, formula_steps};
 ghost use Rattle.processor.specs.Meanings.{ladder_steps, steps_of};
 ghost use Rattle.model.specs.Steps.{no_step, Lawful};
-ghost use Rattle.refusal.specs.Refusals.{outcome};
+ghost use Rattle.refusal.specs.Refusals.{outcome, first_of};
 
 use crate::check::check;
 use crate::formula::Formula;
@@ -38,6 +38,25 @@ impl Ladder {
         Ladder { steps, count: 2 }
     }
 
+    // The ladder of these steps, or the first rule that they break.
+    pub fn of(steps: &[Step]) -> Result<Ladder, Refusal>
+        ensures answer { outcome result ≡ first_of (step_lines steps.now (length steps.now)) }
+        ensures exact { (is_ok result ≡ true → Lawful steps.now) × (Lawful steps.now → is_ok result ≡ true) }
+        ensures made { IfOk result (λ l. ladder_steps l ≡ steps.now) }
+    {
+        let count = steps.len();
+        if count < 2 || count > 16 {
+            return Err(Refusal::Count);
+        }
+        check(steps)?;
+        let mut places = [Step { speed: 0, power: 0 }; 16];
+        places[..count].copy_from_slice(steps);
+        Ok(Ladder {
+            steps: places,
+            count,
+        })
+    }
+
     // Fills the ladder with the first `count` places of the two arrays, or says which rule they break.
     pub fn fill(
         &mut self,
@@ -49,13 +68,9 @@ impl Ladder {
         ensures exact { (is_ok result ≡ true → Lawful (listed speeds powers count)) × (count ≤ 16 → Lawful (listed speeds powers count) → is_ok result ≡ true) }
         ensures after { MatchResult result (λ _. ladder_steps self.new ≡ listed speeds powers count) (λ _. self.new ≡ self.old) }
     {
-        if count < 2 || count > 16 {
-            return Err(Refusal::Count);
-        }
         let steps = pair(speeds, powers);
-        check(&steps[0..count])?;
-        self.steps = steps;
-        self.count = count;
+        let named = steps.get(..count).ok_or(Refusal::Count)?;
+        *self = Ladder::of(named)?;
         Ok(())
     }
 }
