@@ -1,8 +1,10 @@
 -- Pieces between separators: found one by one from the front, and put together again.
-use Rattle.std.proofs.Common.{◌≡◌, ℕ, ◌+◌, ◌-◌, ◌<◌, ◌≤◌, Bool, true, false, cond, eqb, List, [], ◌∷◌, ◌++◌, length, get_or, take, drop, Some, None, sym, refl, ap, ◌∙◌, subst, arith}
-use Rattle.std.proofs.lemmas.List.{take_more, take_all, take-append-drop, drop_more, drop-drop, length-drop, get_or-drop}
-use Rattle.std.proofs.lemmas.Bool.{cond-true, cond-false, eq-eqb, ne_eqb, eqb-true}
-use Rattle.grammar.specs.Pieces.{led, pieces, line_feed, LineAt}
+use Rattle.std.specs.List.{position_or_len}
+use Rattle.std.proofs.lemmas.List.Sums.{passes_at_first}
+use Rattle.std.proofs.Common.{slice_range, not, ltb, position, one-add, ◌≡◌, ℕ, ◌+◌, ◌-◌, ◌<◌, ◌≤◌, Bool, true, false, cond, eqb, List, [], ◌∷◌, ◌++◌, length, get_or, take, drop, Some, None, sym, refl, ap, ◌∙◌, subst, arith}
+use Rattle.std.proofs.lemmas.List.{take_all, take-append-drop, drop_all, drop_more, drop-drop, length-drop}
+use Rattle.std.proofs.lemmas.Bool.{cond-true, cond-false, eq-eqb, ne_eqb, eqb-true, ltb-true, ltb-false, both_ways}
+use Rattle.grammar.specs.Pieces.{led, pieces, line_feed, lines, LineAt}
 
 -- bytes without a separator
 abbrev pub Free : ℕ → List ℕ → Type 0
@@ -68,38 +70,62 @@ pieces_glued s (b ∷ bs) = both (eqb b s) refl (pieces_glued s bs)
         parted_glued (pieces s bs) p.0 p.1 p.2 ∙ ap (λ (xs : List ℕ). s ∷ xs) h ∙ ap (λ (x : ℕ). x ∷ bs) (sym (eqb-true b s e))
     both false e h = led_glued (pieces s bs) ∙ ap (λ (xs : List ℕ). b ∷ xs) h
 
--- the search for a line's end: no line ends between two places
-pub none_yet : (bytes : List ℕ) (start : ℕ) → Free line_feed (take (start - start) (drop start bytes))
-none_yet bytes start =
-    let z : start - start ≡ 0 = omega arith in
-    subst (λ (n : ℕ). Free line_feed (take n (drop start bytes))) (sym z) tt
+to_end : (bytes : List ℕ) (start : ℕ) → slice_range bytes start (length bytes) ≡ drop start bytes
+to_end bytes start = take_all (length bytes - start) (drop start bytes) (let d = length-drop start bytes in omega arith)
 
-there : (bytes : List ℕ) (start at : ℕ) → start ≤ at → get_or (drop start bytes) (at - start) 0 ≡ get_or bytes at 0
-there bytes start at l = let e : start + (at - start) ≡ at = omega arith in get_or-drop start bytes (at - start) 0 ∙ ap (λ (i : ℕ). get_or bytes i 0) e
+-- no separator stands before the first one
+free_first : (s : ℕ) (bs : List ℕ) → Free s (take (position_or_len (λ (b : ℕ). eqb b s) bs) bs)
+free_first s [] = tt
+free_first s (b ∷ bs) = by (eqb b s) refl (free_first s bs)
+  where
+    by : (t : Bool) → eqb b s ≡ t → Free s (take (position_or_len (λ (c : ℕ). eqb c s) bs) bs) → Free s (take (cond (not t) (1 + position_or_len (λ (c : ℕ). eqb c s) bs) 0) (b ∷ bs))
+    by true e f = tt
+    by false e f = rw one-add (λ q. both_ways (eqb b s) e (eq-eqb b s q), f)
 
-pub none_more : (bytes : List ℕ) (start at : ℕ) → start ≤ at → at < length bytes → Free line_feed (take (at - start) (drop start bytes)) → (get_or bytes at 0 ≡ line_feed → ⊥)
-    → Free line_feed (take (at + 1 - start) (drop start bytes))
-none_more bytes start at l h f n =
-    let d = length-drop start bytes in
-    let e : at - start + 1 ≡ at + 1 - start = omega arith in
-    subst (λ (ws : List ℕ). Free line_feed ws)
-    (sym (take_more (drop start bytes) (at - start) 0 (omega arith)) ∙ ap (λ (m : ℕ). take m (drop start bytes)) e)
-    (free_push line_feed (get_or (drop start bytes) (at - start) 0) (take (at - start) (drop start bytes)) f (λ q. n (sym (there bytes start at l) ∙ q)))
+-- the line that begins at a place ends at the first line feed there
+pub line_found : (bytes : List ℕ) (start : ℕ) (rest : List ℕ) (n : ℕ) → rest ≡ slice_range bytes start (length bytes) → Some n ≡ position (λ (b : ℕ). eqb b line_feed) rest → LineAt bytes start (Some (start + n))
+line_found bytes start rest n r e = by (ltb (position_or_len (λ (b : ℕ). eqb b line_feed) rest) (length rest)) refl e
+  where
+    at : n < length rest → Free line_feed (take n rest) → get_or rest n 0 ≡ line_feed → LineAt bytes start (Some (start + n))
+    at l f g =
+        let q : rest ≡ drop start bytes = r ∙ to_end bytes start in
+        let d = length-drop start bytes in
+        let m = ap length q in
+        let j : start + (n + 1) ≡ start + n + 1 = omega arith in
+        let z : start + n - start ≡ n = omega arith in
+        let split : rest ≡ take n rest ++ (line_feed ∷ drop (start + n + 1) bytes) =
+        sym (take-append-drop n rest)
+        ∙ ap (λ (ys : List ℕ). take n rest ++ ys)
+        (drop_more rest n 0 l
+        ∙ ap (λ (x : ℕ). x ∷ drop (n + 1) rest) g
+        ∙ ap (λ (ys : List ℕ). line_feed ∷ ys) (ap (λ (ys : List ℕ). drop (n + 1) ys) q ∙ drop-drop (n + 1) start bytes ∙ ap (λ (i : ℕ). drop i bytes) j)) in (
+          omega arith,
+          omega arith,
+          ap lines (sym q ∙ split)
+              ∙ pieces_front line_feed (take n rest) (drop (start + n + 1) bytes) f
+              ∙ ap (λ (ys : List ℕ). ys ∷ lines (drop (start + n + 1) bytes)) (ap (λ (ys : List ℕ). take n ys) q ∙ ap (λ (i : ℕ). take i (drop start bytes)) (sym z)),
+        )
 
-pub line_found : (bytes : List ℕ) (start at : ℕ) → start ≤ at → at < length bytes → Free line_feed (take (at - start) (drop start bytes)) → get_or bytes at 0 ≡ line_feed → LineAt bytes start (Some at)
-line_found bytes start at l h f n =
-    let e : start + (at - start) ≡ at = omega arith in
-    let split : drop start bytes ≡ take (at - start) (drop start bytes) ++ (line_feed ∷ drop (at + 1) bytes) =
-    sym (take-append-drop (at - start) (drop start bytes))
-    ∙ ap (λ (xs : List ℕ). take (at - start) (drop start bytes) ++ xs)
-    (drop-drop (at - start) start bytes
-    ∙ ap (λ (m : ℕ). drop m bytes) e
-    ∙ drop_more bytes at 0 h
-    ∙ ap (λ (x : ℕ). x ∷ drop (at + 1) bytes) n) in
-    (l, h, ap (λ (xs : List ℕ). pieces line_feed xs) split ∙ pieces_front line_feed (take (at - start) (drop start bytes)) (drop (at + 1) bytes) f)
+    by : (t : Bool) → ltb (position_or_len (λ (b : ℕ). eqb b line_feed) rest) (length rest) ≡ t → Some n ≡ cond t (Some (position_or_len (λ (b : ℕ). eqb b line_feed) rest)) None
+        → LineAt bytes start (Some (start + n))
+    by true q e =
+        let m : n ≡ position_or_len (λ (b : ℕ). eqb b line_feed) rest = cc in
+        let l = ltb-true _ _ q in
+        at (omega arith) (subst (λ (i : ℕ). Free line_feed (take i rest)) (sym m) (free_first line_feed rest))
+        (ap (λ (i : ℕ). get_or rest i 0) m ∙ eqb-true _ _ (passes_at_first (λ (b : ℕ). eqb b line_feed) rest 0 l))
+    by false q e = let z : ◌≡◌ {A = ℕ} 0 1 = cc in absurd (omega arith)
 
-pub line_missing : (bytes : List ℕ) (start at : ℕ) → (length bytes ≤ at) → Free line_feed (take (at - start) (drop start bytes)) → LineAt bytes start None
-line_missing bytes start at l f =
-    let d = length-drop start bytes in
-    pieces_last line_feed (drop start bytes)
-    (subst (λ (ws : List ℕ). Free line_feed ws) (take_all (at - start) (drop start bytes) (omega arith)) f)
+pub line_missing : (bytes : List ℕ) (start : ℕ) (rest : List ℕ) → rest ≡ slice_range bytes start (length bytes) → None ≡ position (λ (b : ℕ). eqb b line_feed) rest → LineAt bytes start None
+line_missing bytes start rest r e = by (ltb (position_or_len (λ (b : ℕ). eqb b line_feed) rest) (length rest)) refl e
+  where
+    by : (t : Bool) → ltb (position_or_len (λ (b : ℕ). eqb b line_feed) rest) (length rest) ≡ t → None ≡ cond t (Some (position_or_len (λ (b : ℕ). eqb b line_feed) rest)) None
+        → LineAt bytes start None
+    by true q e = let z : ◌≡◌ {A = ℕ} 0 1 = cc in absurd (omega arith)
+    by false q e =
+        subst (λ (xs : List ℕ). lines xs ≡ xs ∷ []) (r ∙ to_end bytes start)
+        (pieces_last line_feed rest (subst (λ (ws : List ℕ). Free line_feed ws) (take_all _ rest (ltb-false _ _ q)) (free_first line_feed rest)))
+
+-- and none begins past the end
+pub none_past : (bytes : List ℕ) (start : ℕ) → length bytes ≤ start → LineAt bytes start None
+unfolding pieces
+none_past bytes start l = let d = drop_all start bytes l in rw d refl

@@ -1,2 +1,2 @@
-pub mod Partway
+pub mod Reading
 pub mod Spelled
