@@ -1,2 +1,3 @@
 pub mod Reading
 pub mod Spelled
+pub mod Written

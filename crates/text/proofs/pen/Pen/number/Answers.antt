@@ -1,4 +1,4 @@
-use Rattle.std.proofs.Common.{◌+◌, ap, ℕ, arith}
+use Rattle.std.proofs.Common.{◌+◌, ap, ◌∙◌, ℕ, length-set, arith}
 use Rattle.text.proofs.Spelled.{digit_by, all_written}
 use Rattle.text.proofs.pen.Pen.number.Goals as goal
 
@@ -8,6 +8,7 @@ loop-place-preserved c =
     let p = c.args.self.now in
     record {
       same = l.invariant.same;
+      size = length-set l.self.out.now _ _ ∙ l.invariant.size;
       at = l.invariant.at;
       spelled = digit_by p.out.now l.self.out.now p.at c.args.n l.place l.rest l.invariant.spelled c.requires (omega arith);
     }
@@ -18,6 +19,7 @@ returns c =
     let p = c.args.self.now in
     record {
       same = l.invariant.same;
+      size = l.invariant.size;
       place = ap (λ (x : ℕ). p.at + x) c.number_length.ensures;
       buffer = all_written p.out.now l.self.out.now p.at c.args.n l.place l.rest l.invariant.spelled (omega arith);
     }
