@@ -82,48 +82,64 @@ free_first s (b ∷ bs) = by (eqb b s) refl (free_first s bs)
     by true e f = tt
     by false e f = rw one-add (λ q. both_ways (eqb b s) e (eq-eqb b s q), f)
 
--- the line that begins at a place ends at the first line feed there
-pub line_found : (bytes : List ℕ) (start : ℕ) (rest : List ℕ) (n : ℕ) → rest ≡ slice_range bytes start (length bytes) → Some n ≡ position (λ (b : ℕ). eqb b line_feed) rest → LineAt bytes start (Some (start + n))
-line_found bytes start rest n r e = by (ltb (position_or_len (λ (b : ℕ). eqb b line_feed) rest) (length rest)) refl e
+-- a text's first line ends at its first line feed
+pub front_line : (text : List ℕ) (n : ℕ) → Some n ≡ position (λ (b : ℕ). eqb b line_feed) text → (n < length text) × (lines text ≡ take n text ∷ lines (drop (n + 1) text))
+front_line text n e = by (ltb (position_or_len (λ (b : ℕ). eqb b line_feed) text) (length text)) refl e
   where
-    at : n < length rest → Free line_feed (take n rest) → get_or rest n 0 ≡ line_feed → LineAt bytes start (Some (start + n))
+    at : n < length text → Free line_feed (take n text) → get_or text n 0 ≡ line_feed → lines text ≡ take n text ∷ lines (drop (n + 1) text)
     at l f g =
-        let q : rest ≡ drop start bytes = r ∙ to_end bytes start in
-        let d = length-drop start bytes in
-        let m = ap length q in
-        let j : start + (n + 1) ≡ start + n + 1 = omega arith in
-        let z : start + n - start ≡ n = omega arith in
-        let split : rest ≡ take n rest ++ (line_feed ∷ drop (start + n + 1) bytes) =
-        sym (take-append-drop n rest)
-        ∙ ap (λ (ys : List ℕ). take n rest ++ ys)
-        (drop_more rest n 0 l
-        ∙ ap (λ (x : ℕ). x ∷ drop (n + 1) rest) g
-        ∙ ap (λ (ys : List ℕ). line_feed ∷ ys) (ap (λ (ys : List ℕ). drop (n + 1) ys) q ∙ drop-drop (n + 1) start bytes ∙ ap (λ (i : ℕ). drop i bytes) j)) in (
-          omega arith,
-          omega arith,
-          ap lines (sym q ∙ split)
-              ∙ pieces_front line_feed (take n rest) (drop (start + n + 1) bytes) f
-              ∙ ap (λ (ys : List ℕ). ys ∷ lines (drop (start + n + 1) bytes)) (ap (λ (ys : List ℕ). take n ys) q ∙ ap (λ (i : ℕ). take i (drop start bytes)) (sym z)),
-        )
+        let split : text ≡ take n text ++ (line_feed ∷ drop (n + 1) text) =
+        sym (take-append-drop n text) ∙ ap (λ (ys : List ℕ). take n text ++ ys) (drop_more text n 0 l ∙ ap (λ (x : ℕ). x ∷ drop (n + 1) text) g) in
+        ap lines split ∙ pieces_front line_feed (take n text) (drop (n + 1) text) f
 
-    by : (t : Bool) → ltb (position_or_len (λ (b : ℕ). eqb b line_feed) rest) (length rest) ≡ t → Some n ≡ cond t (Some (position_or_len (λ (b : ℕ). eqb b line_feed) rest)) None
-        → LineAt bytes start (Some (start + n))
+    by : (t : Bool) → ltb (position_or_len (λ (b : ℕ). eqb b line_feed) text) (length text) ≡ t → Some n ≡ cond t (Some (position_or_len (λ (b : ℕ). eqb b line_feed) text)) None
+        → (n < length text) × (lines text ≡ take n text ∷ lines (drop (n + 1) text))
     by true q e =
-        let m : n ≡ position_or_len (λ (b : ℕ). eqb b line_feed) rest = cc in
-        let l = ltb-true _ _ q in
-        at (omega arith) (subst (λ (i : ℕ). Free line_feed (take i rest)) (sym m) (free_first line_feed rest))
-        (ap (λ (i : ℕ). get_or rest i 0) m ∙ eqb-true _ _ (passes_at_first (λ (b : ℕ). eqb b line_feed) rest 0 l))
+        let m : n ≡ position_or_len (λ (b : ℕ). eqb b line_feed) text = cc in
+        let l = ltb-true _ _ q in (
+          omega arith,
+          at (omega arith) (subst (λ (i : ℕ). Free line_feed (take i text)) (sym m) (free_first line_feed text))
+              (ap (λ (i : ℕ). get_or text i 0) m ∙ eqb-true _ _ (passes_at_first (λ (b : ℕ). eqb b line_feed) text 0 l)),
+        )
     by false q e = let z : ◌≡◌ {A = ℕ} 0 1 = cc in absurd (omega arith)
 
-pub line_missing : (bytes : List ℕ) (start : ℕ) (rest : List ℕ) → rest ≡ slice_range bytes start (length bytes) → None ≡ position (λ (b : ℕ). eqb b line_feed) rest → LineAt bytes start None
-line_missing bytes start rest r e = by (ltb (position_or_len (λ (b : ℕ). eqb b line_feed) rest) (length rest)) refl e
+-- and without one it has no line
+pub no_line : (text : List ℕ) → None ≡ position (λ (b : ℕ). eqb b line_feed) text → lines text ≡ text ∷ []
+no_line text e = by (ltb (position_or_len (λ (b : ℕ). eqb b line_feed) text) (length text)) refl e
   where
-    by : (t : Bool) → ltb (position_or_len (λ (b : ℕ). eqb b line_feed) rest) (length rest) ≡ t → None ≡ cond t (Some (position_or_len (λ (b : ℕ). eqb b line_feed) rest)) None
-        → LineAt bytes start None
+    by : (t : Bool) → ltb (position_or_len (λ (b : ℕ). eqb b line_feed) text) (length text) ≡ t → None ≡ cond t (Some (position_or_len (λ (b : ℕ). eqb b line_feed) text)) None → lines text ≡ text ∷ []
     by true q e = let z : ◌≡◌ {A = ℕ} 0 1 = cc in absurd (omega arith)
-    by false q e =
-        subst (λ (xs : List ℕ). lines xs ≡ xs ∷ []) (r ∙ to_end bytes start)
-        (pieces_last line_feed rest (subst (λ (ws : List ℕ). Free line_feed ws) (take_all _ rest (ltb-false _ _ q)) (free_first line_feed rest)))
+    by false q e = pieces_last line_feed text (subst (λ (ws : List ℕ). Free line_feed ws) (take_all _ text (ltb-false _ _ q)) (free_first line_feed text))
+
+-- the line split off, and what follows it
+pub line_split : (text line rest : List ℕ) (n : ℕ) → Some n ≡ position (λ (b : ℕ). eqb b line_feed) text → line ≡ take n text → rest ≡ drop n text
+    → lines text ≡ line ∷ lines (take (length rest - 1) (drop 1 rest))
+line_split text line rest n e f g =
+    let h = front_line text n e in
+    let d = length-drop 1 rest in
+    let k = take_all (length rest - 1) (drop 1 rest) (omega arith) ∙ ap (λ (xs : List ℕ). drop 1 xs) g ∙ drop-drop 1 n text in
+    h.1 ∙ ap (λ (xs : List ℕ). xs ∷ lines (drop (n + 1) text)) (sym f) ∙ ap (λ (xs : List ℕ). line ∷ lines xs) (sym k)
+
+-- the line that begins at a place
+pub line_found : (bytes : List ℕ) (start : ℕ) (rest : List ℕ) (n : ℕ) → rest ≡ slice_range bytes start (length bytes) → Some n ≡ position (λ (b : ℕ). eqb b line_feed) rest → LineAt bytes start (Some (start + n))
+line_found bytes start rest n r e =
+    let q : rest ≡ drop start bytes = r ∙ to_end bytes start in
+    let h = front_line rest n e in
+    let d = length-drop start bytes in
+    let m = ap length q in
+    let j : start + (n + 1) ≡ start + n + 1 = omega arith in
+    let z : start + n - start ≡ n = omega arith in (
+      omega arith,
+      omega (arith, h.0),
+      ap lines (sym q)
+          ∙ h.1
+          ∙ ap (λ (ys : List ℕ). take n ys ∷ lines (drop (n + 1) ys)) q
+          ∙ ap (λ (i : ℕ). take i (drop start bytes) ∷ lines (drop (n + 1) (drop start bytes))) (sym z)
+          ∙ ap (λ (ys : List ℕ). take (start + n - start) (drop start bytes) ∷ lines ys) (drop-drop (n + 1) start bytes ∙ ap (λ (i : ℕ). drop i bytes) j),
+    )
+
+pub line_missing : (bytes : List ℕ) (start : ℕ) (rest : List ℕ) → rest ≡ slice_range bytes start (length bytes) → None ≡ position (λ (b : ℕ). eqb b line_feed) rest → LineAt bytes start None
+line_missing bytes start rest r e = subst (λ (xs : List ℕ). lines xs ≡ xs ∷ []) (r ∙ to_end bytes start) (no_line rest e)
 
 -- and none begins past the end
 pub none_past : (bytes : List ℕ) (start : ℕ) → length bytes ≤ start → LineAt bytes start None
