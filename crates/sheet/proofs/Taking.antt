@@ -135,7 +135,7 @@ draw_taken p s l xs a w n m k e =
     let h = g.segments in
     let f = e ∙ plan_answer p s l w m in
     let z = plan_done (desk s.jobs) s.steps p.segments xs a.segments a.energy f in
-    let v : record { steps = p.steps.items; jobs = (state p.book).jobs; drawn = true } ≡ record { steps = s.steps; jobs = s.jobs; drawn = true } = ap (λ (x : Sheet). with_row x Draw) w.is in
+    let v : ◌≡◌ {A = Sheet} (record { steps = p.steps.items; jobs = (state p.book).jobs; drawn = true }) (record { steps = s.steps; jobs = s.jobs; drawn = true }) = ap (λ (x : Sheet). with_row x Draw) w.is in
     let d = drawn_on s.steps s.jobs p.segments xs a.segments a.energy f in
     let i = ap length d.after ∙ length-append (plan s.steps s.jobs) (drop (length (plan s.steps s.jobs)) p.segments) in
     let c = d.count in
