@@ -1,8 +1,10 @@
 -- Pieces between separators: found one by one from the front, and put together again.
-use Rattle.std.proofs.Common.{◌≡◌, ℕ, ◌+◌, ◌-◌, ◌<◌, ◌≤◌, Bool, true, false, cond, eqb, List, [], ◌∷◌, ◌++◌, length, get_or, take, drop, Some, None, sym, refl, ap, ◌∙◌, subst, arith}
-use Rattle.std.proofs.lemmas.List.{take_more, take_all, take-append-drop, drop_more, drop-drop, length-drop, get_or-drop}
-use Rattle.std.proofs.lemmas.Bool.{cond-true, cond-false, eq-eqb, ne_eqb, eqb-true}
-use Rattle.grammar.specs.Pieces.{led, pieces, line_feed, LineAt}
+use Rattle.std.specs.List.{position_or_len}
+use Rattle.std.proofs.lemmas.List.Sums.{passes_at_first}
+use Rattle.std.proofs.Common.{slice_range, not, ltb, position, one-add, ◌≡◌, ℕ, ◌+◌, ◌-◌, ◌<◌, ◌≤◌, Bool, true, false, cond, eqb, List, [], ◌∷◌, ◌++◌, length, get_or, take, drop, Some, None, sym, refl, ap, ◌∙◌, subst, arith}
+use Rattle.std.proofs.lemmas.List.{take_all, take-append-drop, drop_all, drop_more, drop-drop, length-drop}
+use Rattle.std.proofs.lemmas.Bool.{cond-true, cond-false, eq-eqb, ne_eqb, eqb-true, ltb-true, ltb-false, both_ways}
+use Rattle.grammar.specs.Pieces.{led, pieces, line_feed, lines, LineAt}
 
 -- bytes without a separator
 abbrev pub Free : ℕ → List ℕ → Type 0
@@ -68,38 +70,78 @@ pieces_glued s (b ∷ bs) = both (eqb b s) refl (pieces_glued s bs)
         parted_glued (pieces s bs) p.0 p.1 p.2 ∙ ap (λ (xs : List ℕ). s ∷ xs) h ∙ ap (λ (x : ℕ). x ∷ bs) (sym (eqb-true b s e))
     both false e h = led_glued (pieces s bs) ∙ ap (λ (xs : List ℕ). b ∷ xs) h
 
--- the search for a line's end: no line ends between two places
-pub none_yet : (bytes : List ℕ) (start : ℕ) → Free line_feed (take (start - start) (drop start bytes))
-none_yet bytes start =
-    let z : start - start ≡ 0 = omega arith in
-    subst (λ (n : ℕ). Free line_feed (take n (drop start bytes))) (sym z) tt
+to_end : (bytes : List ℕ) (start : ℕ) → slice_range bytes start (length bytes) ≡ drop start bytes
+to_end bytes start = take_all (length bytes - start) (drop start bytes) (let d = length-drop start bytes in omega arith)
 
-there : (bytes : List ℕ) (start at : ℕ) → start ≤ at → get_or (drop start bytes) (at - start) 0 ≡ get_or bytes at 0
-there bytes start at l = let e : start + (at - start) ≡ at = omega arith in get_or-drop start bytes (at - start) 0 ∙ ap (λ (i : ℕ). get_or bytes i 0) e
+-- no separator stands before the first one
+free_first : (s : ℕ) (bs : List ℕ) → Free s (take (position_or_len (λ (b : ℕ). eqb b s) bs) bs)
+free_first s [] = tt
+free_first s (b ∷ bs) = by (eqb b s) refl (free_first s bs)
+  where
+    by : (t : Bool) → eqb b s ≡ t → Free s (take (position_or_len (λ (c : ℕ). eqb c s) bs) bs) → Free s (take (cond (not t) (1 + position_or_len (λ (c : ℕ). eqb c s) bs) 0) (b ∷ bs))
+    by true e f = tt
+    by false e f = rw one-add (λ q. both_ways (eqb b s) e (eq-eqb b s q), f)
 
-pub none_more : (bytes : List ℕ) (start at : ℕ) → start ≤ at → at < length bytes → Free line_feed (take (at - start) (drop start bytes)) → (get_or bytes at 0 ≡ line_feed → ⊥)
-    → Free line_feed (take (at + 1 - start) (drop start bytes))
-none_more bytes start at l h f n =
+-- a text's first line ends at its first line feed
+pub front_line : (text : List ℕ) (n : ℕ) → Some n ≡ position (λ (b : ℕ). eqb b line_feed) text → (n < length text) × (lines text ≡ take n text ∷ lines (drop (n + 1) text))
+front_line text n e = by (ltb (position_or_len (λ (b : ℕ). eqb b line_feed) text) (length text)) refl e
+  where
+    at : n < length text → Free line_feed (take n text) → get_or text n 0 ≡ line_feed → lines text ≡ take n text ∷ lines (drop (n + 1) text)
+    at l f g =
+        let split : text ≡ take n text ++ (line_feed ∷ drop (n + 1) text) =
+        sym (take-append-drop n text) ∙ ap (λ (ys : List ℕ). take n text ++ ys) (drop_more text n 0 l ∙ ap (λ (x : ℕ). x ∷ drop (n + 1) text) g) in
+        ap lines split ∙ pieces_front line_feed (take n text) (drop (n + 1) text) f
+
+    by : (t : Bool) → ltb (position_or_len (λ (b : ℕ). eqb b line_feed) text) (length text) ≡ t → Some n ≡ cond t (Some (position_or_len (λ (b : ℕ). eqb b line_feed) text)) None
+        → (n < length text) × (lines text ≡ take n text ∷ lines (drop (n + 1) text))
+    by true q e =
+        let m : n ≡ position_or_len (λ (b : ℕ). eqb b line_feed) text = cc in
+        let l = ltb-true _ _ q in (
+          omega arith,
+          at (omega arith) (subst (λ (i : ℕ). Free line_feed (take i text)) (sym m) (free_first line_feed text))
+              (ap (λ (i : ℕ). get_or text i 0) m ∙ eqb-true _ _ (passes_at_first (λ (b : ℕ). eqb b line_feed) text 0 l)),
+        )
+    by false q e = let z : ◌≡◌ {A = ℕ} 0 1 = cc in absurd (omega arith)
+
+-- and without one it has no line
+pub no_line : (text : List ℕ) → None ≡ position (λ (b : ℕ). eqb b line_feed) text → lines text ≡ text ∷ []
+no_line text e = by (ltb (position_or_len (λ (b : ℕ). eqb b line_feed) text) (length text)) refl e
+  where
+    by : (t : Bool) → ltb (position_or_len (λ (b : ℕ). eqb b line_feed) text) (length text) ≡ t → None ≡ cond t (Some (position_or_len (λ (b : ℕ). eqb b line_feed) text)) None → lines text ≡ text ∷ []
+    by true q e = let z : ◌≡◌ {A = ℕ} 0 1 = cc in absurd (omega arith)
+    by false q e = pieces_last line_feed text (subst (λ (ws : List ℕ). Free line_feed ws) (take_all _ text (ltb-false _ _ q)) (free_first line_feed text))
+
+-- the line split off, and what follows it
+pub line_split : (text line rest : List ℕ) (n : ℕ) → Some n ≡ position (λ (b : ℕ). eqb b line_feed) text → line ≡ take n text → rest ≡ drop n text
+    → lines text ≡ line ∷ lines (take (length rest - 1) (drop 1 rest))
+line_split text line rest n e f g =
+    let h = front_line text n e in
+    let d = length-drop 1 rest in
+    let k = take_all (length rest - 1) (drop 1 rest) (omega arith) ∙ ap (λ (xs : List ℕ). drop 1 xs) g ∙ drop-drop 1 n text in
+    h.1 ∙ ap (λ (xs : List ℕ). xs ∷ lines (drop (n + 1) text)) (sym f) ∙ ap (λ (xs : List ℕ). line ∷ lines xs) (sym k)
+
+-- the line that begins at a place
+pub line_found : (bytes : List ℕ) (start : ℕ) (rest : List ℕ) (n : ℕ) → rest ≡ slice_range bytes start (length bytes) → Some n ≡ position (λ (b : ℕ). eqb b line_feed) rest → LineAt bytes start (Some (start + n))
+line_found bytes start rest n r e =
+    let q : rest ≡ drop start bytes = r ∙ to_end bytes start in
+    let h = front_line rest n e in
     let d = length-drop start bytes in
-    let e : at - start + 1 ≡ at + 1 - start = omega arith in
-    subst (λ (ws : List ℕ). Free line_feed ws)
-    (sym (take_more (drop start bytes) (at - start) 0 (omega arith)) ∙ ap (λ (m : ℕ). take m (drop start bytes)) e)
-    (free_push line_feed (get_or (drop start bytes) (at - start) 0) (take (at - start) (drop start bytes)) f (λ q. n (sym (there bytes start at l) ∙ q)))
+    let m = ap length q in
+    let j : start + (n + 1) ≡ start + n + 1 = omega arith in
+    let z : start + n - start ≡ n = omega arith in (
+      omega arith,
+      omega (arith, h.0),
+      ap lines (sym q)
+          ∙ h.1
+          ∙ ap (λ (ys : List ℕ). take n ys ∷ lines (drop (n + 1) ys)) q
+          ∙ ap (λ (i : ℕ). take i (drop start bytes) ∷ lines (drop (n + 1) (drop start bytes))) (sym z)
+          ∙ ap (λ (ys : List ℕ). take (start + n - start) (drop start bytes) ∷ lines ys) (drop-drop (n + 1) start bytes ∙ ap (λ (i : ℕ). drop i bytes) j),
+    )
 
-pub line_found : (bytes : List ℕ) (start at : ℕ) → start ≤ at → at < length bytes → Free line_feed (take (at - start) (drop start bytes)) → get_or bytes at 0 ≡ line_feed → LineAt bytes start (Some at)
-line_found bytes start at l h f n =
-    let e : start + (at - start) ≡ at = omega arith in
-    let split : drop start bytes ≡ take (at - start) (drop start bytes) ++ (line_feed ∷ drop (at + 1) bytes) =
-    sym (take-append-drop (at - start) (drop start bytes))
-    ∙ ap (λ (xs : List ℕ). take (at - start) (drop start bytes) ++ xs)
-    (drop-drop (at - start) start bytes
-    ∙ ap (λ (m : ℕ). drop m bytes) e
-    ∙ drop_more bytes at 0 h
-    ∙ ap (λ (x : ℕ). x ∷ drop (at + 1) bytes) n) in
-    (l, h, ap (λ (xs : List ℕ). pieces line_feed xs) split ∙ pieces_front line_feed (take (at - start) (drop start bytes)) (drop (at + 1) bytes) f)
+pub line_missing : (bytes : List ℕ) (start : ℕ) (rest : List ℕ) → rest ≡ slice_range bytes start (length bytes) → None ≡ position (λ (b : ℕ). eqb b line_feed) rest → LineAt bytes start None
+line_missing bytes start rest r e = subst (λ (xs : List ℕ). lines xs ≡ xs ∷ []) (r ∙ to_end bytes start) (no_line rest e)
 
-pub line_missing : (bytes : List ℕ) (start at : ℕ) → (length bytes ≤ at) → Free line_feed (take (at - start) (drop start bytes)) → LineAt bytes start None
-line_missing bytes start at l f =
-    let d = length-drop start bytes in
-    pieces_last line_feed (drop start bytes)
-    (subst (λ (ws : List ℕ). Free line_feed ws) (take_all (at - start) (drop start bytes) (omega arith)) f)
+-- and none begins past the end
+pub none_past : (bytes : List ℕ) (start : ℕ) → length bytes ≤ start → LineAt bytes start None
+unfolding pieces
+none_past bytes start l = let d = drop_all start bytes l in rw d refl

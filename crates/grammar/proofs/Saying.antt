@@ -1,9 +1,8 @@
 -- A line says a row exactly where it is the row's text.
-use Rattle.std.proofs.Common.{◌≡◌, ℕ, ◌<◌, ◌≤◌, Bool, true, false, cond, eqb, ◌⊎◌, List, [], ◌∷◌, ◌++◌, map, length, get_or, drop, Some, None, decimal, Option, sym, refl, ap, ◌∙◌, subst, inl, inr, arith}
-use Rattle.std.proofs.lemmas.List.{drop_all, nil_from_length}
+use Rattle.std.proofs.Common.{◌≡◌, ℕ, Bool, true, false, cond, eqb, ◌⊎◌, List, [], ◌∷◌, ◌++◌, map, length, Some, None, decimal, Option, sym, refl, ap, ◌∙◌, subst, inl, inr, arith}
 use Rattle.std.proofs.lemmas.Bool.{cond-true, cond-false, and_parts, eqb-true}
 use Rattle.grammar.specs.Pieces.{space, pieces}
-use Rattle.grammar.specs.Rows.{numbers, letter, rung, task, of_numbers, says, by_words, row_of, fields, letter_of, numbers_of, row_text, Small, Exactly, Fields}
+use Rattle.grammar.specs.Rows.{numbers, letter, rung, task, of_numbers, says, by_words, row_of, fields, letter_of, numbers_of, row_text, Small, Exactly}
 use Rattle.grammar.specs.declared.row.Row.{Row}
 use Rattle.grammar.specs.declared.row.Row.TheVariants.{Rung, Task, Draw}
 use Rattle.grammar.proofs.Parting.{Free, parted, glued, pieces_some, pieces_glued}
@@ -113,66 +112,20 @@ found text None x = by (row_of text) refl
     by None e = sym e
     by (Some r) e = let y = row_exact text r e in absurd (x r y.1 y.0)
 
--- the letter of a row's text, and what follows it
-letter_is : (text : List ℕ) (r : Row) → text ≡ row_text r → get_or text 0 0 ≡ letter_of r
-letter_is text r e = ap (λ (xs : List ℕ). get_or xs 0 0) e
-
-rest_is : (text : List ℕ) (r : Row) → text ≡ row_text r → drop 1 text ≡ fields (numbers_of r)
-rest_is text r e = ap (λ (xs : List ℕ). drop 1 xs) e
-
-text_is : (text ns : List ℕ) (r : Row) → 0 < length text → get_or text 0 0 ≡ letter_of r → drop 1 text ≡ fields ns → ns ≡ numbers_of r → text ≡ row_text r
-text_is [] ns r l e f n = absurd (omega arith)
-text_is (c ∷ text) ns r l e f n = ap (λ (x : ℕ). x ∷ text) e ∙ ap (λ (xs : List ℕ). letter_of r ∷ xs) (f ∙ ap fields n)
-
--- a letter and its numbers are the row's text
-pub right : (text ns : List ℕ) (r : Row) → 0 < length text → get_or text 0 0 ≡ letter_of r → Fields (drop 1 text) ns true → ns ≡ numbers_of r → Exactly text (Some r)
-right text ns r l e f n = (text_is text ns r l e f.0 n, subst Small n f.1)
-
--- how many numbers a letter wants
-pub rungs_two : (r : Row) → letter_of r ≡ 84 → length (numbers_of r) ≡ 2
-rungs_two (Rung v) e = refl
-rungs_two (Task j) e = absurd (omega arith)
-rungs_two Draw e = absurd (omega arith)
-
-pub tasks_four : (r : Row) → letter_of r ≡ 74 → length (numbers_of r) ≡ 4
-tasks_four (Rung v) e = absurd (omega arith)
-tasks_four (Task j) e = refl
-tasks_four Draw e = absurd (omega arith)
-
-pub draws_none : (r : Row) → letter_of r ≡ 80 → length (numbers_of r) ≡ 0
-draws_none (Rung v) e = absurd (omega arith)
-draws_none (Task j) e = absurd (omega arith)
-draws_none Draw e = refl
-
--- a letter without its numbers is no row's text
-pub wrong : (c k : ℕ) (text ns : List ℕ) → ((r : Row) → letter_of r ≡ c → length (numbers_of r) ≡ k) → get_or text 0 0 ≡ c → length ns ≡ k → Fields (drop 1 text) ns false → Exactly text None
-wrong c k text ns h e l f r s t =
-    let n = h r (sym (letter_is text r t) ∙ e) in
-    f (numbers_of r) (n ∙ sym l) s (rest_is text r t)
+-- the same of a line by its letter and what follows it
+pub row_by : (line text : List ℕ) (c d : ℕ) (o : Option Row) → line ≡ c ∷ text → c ≡ d → Exactly (d ∷ text) o → o ≡ row_of line
+row_by line text c d o e l x = found line o (subst (λ (xs : List ℕ). Exactly xs o) (sym (e ∙ ap (λ (b : ℕ). b ∷ text) l)) x)
 
 -- a letter that no row has
-pub lettered : (r : Row) → ((letter_of r ≡ 84) ⊎ (letter_of r ≡ 74)) ⊎ (letter_of r ≡ 80)
+lettered : (r : Row) → ((letter_of r ≡ 84) ⊎ (letter_of r ≡ 74)) ⊎ (letter_of r ≡ 80)
 lettered (Rung v) = inl (inl refl)
 lettered (Task j) = inl (inr refl)
 lettered Draw = inr refl
 
-pub unlettered : (text : List ℕ) → (get_or text 0 0 ≡ 84 → ⊥) → (get_or text 0 0 ≡ 74 → ⊥) → (get_or text 0 0 ≡ 80 → ⊥) → Exactly text None
-unlettered text a b c r s t =
-    let e = letter_is text r t in
-    elim (lettered r) [ inl q ↦ elim q [ inl x ↦ a (e ∙ x) | inr x ↦ b (e ∙ x) ] | inr x ↦ c (e ∙ x) ]
+pub unlettered : (c : ℕ) (text : List ℕ) → (c ≡ 84 → ⊥) → (c ≡ 74 → ⊥) → (c ≡ 80 → ⊥) → Exactly (c ∷ text) None
+unlettered c text a b d r s t =
+    let e : c ≡ letter_of r = cc in
+    elim (lettered r) [ inl q ↦ elim q [ inl x ↦ a (e ∙ x) | inr x ↦ b (e ∙ x) ] | inr x ↦ d (e ∙ x) ]
 
 pub empty_line : (text : List ℕ) → length text ≡ 0 → Exactly text None
 empty_line text l r s t = let n = ap length t in omega arith
-
--- P alone, or with more
-pub draw_alone : (text : List ℕ) → 0 < length text → length text ≤ 1 → get_or text 0 0 ≡ 80 → Exactly text (Some Draw)
-unfolding fields
-draw_alone text l m e = (text_is text [] Draw l e (drop_all 1 text m) refl, tt)
-
-pub draw_more : (text : List ℕ) → 1 < length text → get_or text 0 0 ≡ 80 → Exactly text None
-unfolding fields
-draw_more text l e r s t =
-    let n = draws_none r (sym (letter_is text r t) ∙ e) in
-    let m : numbers_of r ≡ [] = nil_from_length (numbers_of r) n in
-    let k = ap length (t ∙ ap (λ (xs : List ℕ). letter_of r ∷ fields xs) m) in
-    omega arith

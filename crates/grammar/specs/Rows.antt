@@ -1,5 +1,5 @@
 -- Rows: what the words of a line say, and the text of a row.
-use Rattle.std.specs.Prelude.{◌≡◌, ℕ, ◌<◌, Bool, true, false, cond, not, ◌&&◌, ◌||◌, List, [], ◌∷◌, ◌++◌, length, Some, None, decimal, Option, ◌==◌, ◌≢◌, nat_le, slice_index}
+use Rattle.std.specs.Prelude.{◌≡◌, ℕ, ◌<◌, Bool, cond, not, ◌&&◌, ◌||◌, List, [], ◌∷◌, ◌++◌, length, Some, None, decimal, Option, ◌==◌, ◌≢◌, nat_le, slice_index}
 use Rattle.std.specs.Str.Parse.{digits_value}
 use Rattle.std.specs.Str.{all_ascii_digits}
 use Rattle.text.specs.Numerals.{ten_digits}
@@ -87,7 +87,7 @@ abbrev pub Exactly : List ℕ → Option Row → Type 0
 Exactly text (Some r) = (text ≡ row_text r) × Small (numbers_of r)
 Exactly text None = (r : Row) → Small (numbers_of r) → text ≢ row_text r
 
--- numbers that were read of what follows the letter, or that so many do not stand there
-abbrev pub Fields : List ℕ → List ℕ → Bool → Type 0
-Fields text ns true = (text ≡ fields ns) × Small ns
-Fields text ns false = (ms : List ℕ) → length ms ≡ length ns → Small ms → text ≢ fields ms
+-- so many numbers that were read of what follows the letter, or that so many do not stand there
+abbrev pub Fields : ℕ → List ℕ → Option (List ℕ) → Type 0
+Fields n text (Some ns) = (length ns ≡ n) × (text ≡ fields ns) × Small ns
+Fields n text None = (ms : List ℕ) → length ms ≡ n → Small ms → text ≢ fields ms

@@ -1,5 +1,5 @@
 // What a line says.
-ghost use Rattle.std.specs.Prelude.{◌≡◌, ◌<◌, length, drop, slice_index};
+ghost use Rattle.std.specs.Prelude.{◌≡◌, ◌∷◌};
 ghost use Rattle.grammar.specs.Rows.{Exactly, Fields, row_of};
 
 use crate::row::Row;
@@ -7,25 +7,18 @@ use model::job::Job;
 use model::step::Step;
 use text::read::read_number;
 
-// Reads the numbers that follow the letter of a line, as many as there is room for; false where they do not stand there.
-fn read_fields(line: &[u8], numbers: &mut [u64]) -> bool
-    ensures { Fields (drop 1 line.now) numbers.new result }
+// Reads the numbers that follow the letter of a line, as many as are wanted; none where they do not stand there.
+fn read_fields<const N: usize>(text: &[u8]) -> Option<[u64; N]>
+    ensures { Fields N text.now result }
 {
-    let mut at = 1;
-    for k in 0..numbers.len() {
-        if at >= line.len() || line[at] != b' ' {
-            return false;
-        }
-        let Some((number, next)) = read_number(line, at + 1) else {
-            return false;
-        };
-        numbers[k] = number;
-        at = next;
+    let mut numbers = [0; N];
+    let mut rest = text;
+    for number in numbers.iter_mut() {
+        let (value, after) = read_number(rest.strip_prefix(b" ")?)?;
+        *number = value;
+        rest = after;
     }
-    if at < line.len() {
-        return false;
-    }
-    true
+    rest.is_empty().then_some(numbers)
 }
 
 // What a line says, if it is well formed.
@@ -33,42 +26,28 @@ pub fn read_row(line: &[u8]) -> Option<Row>
     ensures value { result ≡ row_of line.now }
     ensures exact { Exactly line.now result }
 {
-    if line.len() == 0 {
-        return None;
-    }
-    match line[0] as char {
-        'T' => read_rung(line),
-        'J' => read_task(line),
-        'P' => read_draw(line),
+    let (letter, text) = line.split_first()?;
+    match *letter as char {
+        'T' => read_rung(text),
+        'J' => read_task(text),
+        'P' => read_draw(text),
         _ => None,
     }
 }
 
 // A step of the ladder: its speed and its power.
-fn read_rung(line: &[u8]) -> Option<Row>
-    requires some { 0 < length line.now }
-    requires begins { slice_index line.now 0 ≡ 84 }
-    ensures { Exactly line.now result }
+fn read_rung(text: &[u8]) -> Option<Row>
+    ensures { Exactly (84 ∷ text.now) result }
 {
-    let mut numbers = [0; 2];
-    if !read_fields(line, &mut numbers) {
-        return None;
-    }
-    let [speed, power] = numbers;
+    let [speed, power] = read_fields::<2>(text)?;
     Some(Row::Rung(Step { speed, power }))
 }
 
 // A job: its arrival, its deadline, its work and its account.
-fn read_task(line: &[u8]) -> Option<Row>
-    requires some { 0 < length line.now }
-    requires begins { slice_index line.now 0 ≡ 74 }
-    ensures { Exactly line.now result }
+fn read_task(text: &[u8]) -> Option<Row>
+    ensures { Exactly (74 ∷ text.now) result }
 {
-    let mut numbers = [0; 4];
-    if !read_fields(line, &mut numbers) {
-        return None;
-    }
-    let [arrival, deadline, work, account] = numbers;
+    let [arrival, deadline, work, account] = read_fields::<4>(text)?;
     Some(Row::Task(Job {
         arrival,
         deadline,
@@ -78,13 +57,9 @@ fn read_task(line: &[u8]) -> Option<Row>
 }
 
 // That the plan be drawn.
-fn read_draw(line: &[u8]) -> Option<Row>
-    requires some { 0 < length line.now }
-    requires begins { slice_index line.now 0 ≡ 80 }
-    ensures { Exactly line.now result }
+fn read_draw(text: &[u8]) -> Option<Row>
+    ensures { Exactly (80 ∷ text.now) result }
 {
-    if line.len() > 1 {
-        return None;
-    }
+    let [] = read_fields::<0>(text)?;
     Some(Row::Draw)
 }

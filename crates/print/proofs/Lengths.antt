@@ -47,3 +47,11 @@ segments_within xs k =
     let b = ap length (segments_append (take k xs) (drop k xs)) in
     let c = length-append (segments_text (take k xs)) (segments_text (drop k xs)) in
     omega arith
+
+-- and leave room for the next
+pub next_segment : (xs : List Segment) (k : ℕ) → k < length xs → length (segments_text (take k xs)) + length (segment_text (get_or xs k no_segment)) ≤ length (segments_text xs)
+next_segment xs k l =
+    let a = ap length (segments_more xs k l) in
+    let b = length-append (segments_text (take k xs)) (segment_text (get_or xs k no_segment)) in
+    let c = segments_within xs (k + 1) in
+    omega arith

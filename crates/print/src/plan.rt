@@ -2,44 +2,42 @@
 ghost use Rattle.std.specs.Prelude.{◌≡◌, ◌+◌, ◌≤◌, length};
 ghost use Rattle.frame.specs.Laid.{laid};
 ghost use Rattle.print.specs.Texts.{segment_text, segments_text, energy_text, text_of};
+ghost use Rattle.text.specs.Writing.{Wrote};
 
 use model::segment::Segment;
-use text::write::{put_byte, put_number, put_word};
+use text::pen::Pen;
 
-// Writes a segment on a line at a place: its step and its ticks.
-fn put_segment(out: &mut [u8], at: usize, segment: Segment) -> usize
-    requires { at + length (segment_text segment) ≤ length out.old }
-    ensures place { result ≡ at + length (segment_text segment) }
-    ensures bytes { out.new ≡ laid at (segment_text segment) out.old }
+// Writes a segment on a line: its step and its ticks.
+#[tactic(auto, using(crate::proofs::Lengths::segment_length))]
+fn put_segment(pen: &mut Pen, segment: &Segment)
+    requires { pen.old.at + length (segment_text segment.now) ≤ length pen.old.out.now }
+    ensures { Wrote pen.old pen.new (segment_text segment.now) }
 {
-    let after_step = put_number(out, at, segment.step as u64);
-    let ticks = put_byte(out, after_step, b' ');
-    let after_ticks = put_number(out, ticks, segment.ticks);
-    put_byte(out, after_ticks, b'\n')
+    pen.number(segment.step as u64);
+    pen.byte(b' ');
+    pen.number(segment.ticks);
+    pen.byte(b'\n');
 }
 
-// Writes segments from the start, each on a line, and answers the place after them.
-fn put_segments(out: &mut [u8], segments: &[Segment]) -> usize
-    requires { length (segments_text segments.now) ≤ length out.old }
-    ensures place { result ≡ length (segments_text segments.now) }
-    ensures bytes { out.new ≡ laid 0 (segments_text segments.now) out.old }
+// Writes segments, each on a line.
+fn put_segments(pen: &mut Pen, segments: &[Segment])
+    requires { pen.old.at + length (segments_text segments.now) ≤ length pen.old.out.now }
+    ensures { Wrote pen.old pen.new (segments_text segments.now) }
 {
-    let mut at = 0;
-    for k in 0..segments.len() {
-        at = put_segment(out, at, segments[k]);
+    for segment in segments {
+        put_segment(pen, segment);
     }
-    at
 }
 
-// Writes the energy on a line at a place, and answers the place after it.
-fn put_energy(out: &mut [u8], at: usize, energy: u64) -> usize
-    requires { at + length (energy_text energy) ≤ length out.old }
-    ensures place { result ≡ at + length (energy_text energy) }
-    ensures bytes { out.new ≡ laid at (energy_text energy) out.old }
+// Writes the energy on a line.
+#[tactic(auto, using(crate::proofs::Lengths::energy_length))]
+fn put_energy(pen: &mut Pen, energy: u64)
+    requires { pen.old.at + length (energy_text energy) ≤ length pen.old.out.now }
+    ensures { Wrote pen.old pen.new (energy_text energy) }
 {
-    let number = put_word(out, at, b"energy ");
-    let end = put_number(out, number, energy);
-    put_byte(out, end, b'\n')
+    pen.word(b"energy ");
+    pen.number(energy);
+    pen.byte(b'\n');
 }
 
 // Writes a plan from the start: its segments, each on a line, and then its energy. Answers its length.
@@ -48,6 +46,8 @@ pub fn put_plan(out: &mut [u8], segments: &[Segment], energy: u64) -> usize
     ensures place { result ≡ length (text_of segments.now energy) }
     ensures bytes { out.new ≡ laid 0 (text_of segments.now energy) out.old }
 {
-    let at = put_segments(out, segments);
-    put_energy(out, at, energy)
+    let mut pen = Pen::new(out);
+    put_segments(&mut pen, segments);
+    put_energy(&mut pen, energy);
+    pen.at
 }

@@ -4,7 +4,7 @@ ghost use Rattle.print.specs.Texts.{refused_text};
 ghost use Rattle.refusal.specs.Refusals.{told, outcome, first_of, line as ruled};
 
 use refusal::refusal::Refusal;
-use text::write::{number_length, put_byte, put_number, put_word};
+use text::pen::{Pen, number_length};
 
 // Writes the line of a refusal from the start: `refused`, its number and a line's number. Answers its length.
 pub fn put_refused(out: &mut [u8], number: u32, line: usize) -> Result<usize, Refusal>
@@ -18,9 +18,11 @@ pub fn put_refused(out: &mut [u8], number: u32, line: usize) -> Result<usize, Re
     if out.len() < bytes {
         return Err(Refusal::Frame { bytes });
     }
-    let at = put_word(out, 0, b"refused ");
-    let space = put_number(out, at, number);
-    let place = put_byte(out, space, b' ');
-    let end = put_number(out, place, line);
-    Ok(put_byte(out, end, b'\n'))
+    let mut pen = Pen::new(out);
+    pen.word(b"refused ");
+    pen.number(number);
+    pen.byte(b' ');
+    pen.number(line);
+    pen.byte(b'\n');
+    Ok(pen.at)
 }

@@ -189,16 +189,22 @@ follow (p ∷ (q ∷ qs)) l n s d st few e =
     let t = taken n s p c.0 in
     row_follows (suc n) s t.0 p q qs d st few t.1 (ap (λ (o : Option Row). first_of (lines_table (suc n) (with_said s o) (q ∷ qs))) (sym t.1.says) ∙ c.1) (follow (q ∷ qs) (omega arith))
 
--- an accepted sheet
-pub accepted_exact : (size : ℕ) (bytes : List ℕ) → first_of (sheet_table size bytes) ≡ None → Plannable (said bytes).steps (said bytes).jobs × (bytes ≡ sheet_text (said bytes).steps (said bytes).jobs)
-unfolding sheet_table sheet_text
-accepted_exact size bytes e =
-    let a = clear_first (line (ltb 32768 (length bytes)) 33 0) (line (ltb size 16384) 24 0 ∷ lines_table 1 blank (lines bytes)) e in
-    let b = clear_first (line (ltb size 16384) 24 0) (lines_table 1 blank (lines bytes)) a.1 in
+-- lines that are not refused
+pub lines_exact : (bytes : List ℕ) → first_of (lines_table 1 blank (lines bytes)) ≡ None → Plannable (said bytes).steps (said bytes).jobs × (bytes ≡ sheet_text (said bytes).steps (said bytes).jobs)
+unfolding sheet_text
+lines_exact bytes e =
     let p = pieces_some line_feed bytes in
     let some : 0 < length (lines bytes) = let l = ap length p.2 in omega arith in
-    let f = follow (lines bytes) some 1 blank refl standing_none (omega arith) b.1 in
+    let f = follow (lines bytes) some 1 blank refl standing_none (omega arith) e in
     let s = f.saying in (
       subst (λ (x : Sheet). Plannable x.steps x.jobs) (sym s) f.plans,
       sym (pieces_glued line_feed bytes) ∙ f.text ∙ sym (ap (λ (x : Sheet). sheet_text x.steps x.jobs) s),
     )
+
+-- an accepted sheet
+pub accepted_exact : (size : ℕ) (bytes : List ℕ) → first_of (sheet_table size bytes) ≡ None → Plannable (said bytes).steps (said bytes).jobs × (bytes ≡ sheet_text (said bytes).steps (said bytes).jobs)
+unfolding sheet_table
+accepted_exact size bytes e =
+    let a = clear_first (line (ltb 32768 (length bytes)) 33 0) (line (ltb size 16384) 24 0 ∷ lines_table 1 blank (lines bytes)) e in
+    let b = clear_first (line (ltb size 16384) 24 0) (lines_table 1 blank (lines bytes)) a.1 in
+    lines_exact bytes b.1

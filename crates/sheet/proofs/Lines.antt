@@ -1,6 +1,6 @@
 -- Lines one by one: the table of a sheet after some of its lines, and what they say.
-use Rattle.std.proofs.Common.{◌≡◌, ℕ, suc, ◌+◌, ◌-◌, ◌<◌, ◌≤◌, ltb, List, [], ◌∷◌, ◌++◌, length, take, drop, Some, None, Option, sym, refl, ap, ◌∙◌, subst, arith}
-use Rattle.std.proofs.lemmas.List.{length-drop, drop_all}
+use Rattle.std.proofs.Common.{◌≡◌, ℕ, suc, ◌+◌, ◌<◌, ◌≤◌, ltb, List, [], ◌∷◌, ◌++◌, length, Some, None, Option, sym, refl, ap, ◌∙◌, subst, arith}
+use Rattle.std.proofs.lemmas.List.{nil_from_length}
 use Rattle.std.proofs.lemmas.Bool.{lt-ltb, le-ltb}
 use Rattle.refusal.proofs.Lines.{first_pass, first_hit}
 use Rattle.refusal.specs.Refusals.{Told, told, line, first_of}
@@ -10,9 +10,7 @@ use Rattle.grammar.proofs.Saying.{found, empty_line}
 use Rattle.grammar.specs.Pieces.{lines, line_feed}
 use Rattle.grammar.specs.Rows.{row_of}
 use Rattle.grammar.specs.declared.row.Row.{Row}
-use Rattle.sheet.specs.Pages.{Good, sheet_of}
 use Rattle.sheet.specs.Sheets.{Sheet, blank, with_said, said_table, line_table, end_table, lines_table, said_by, said}
-use Rattle.sheet.specs.declared.page.Page.{Page}
 
 -- a line that is too long, and one that is not
 pub line_long : (n : ℕ) (s : Sheet) (text : List ℕ) → 63 < length text → Some (told 31 n) ≡ first_of (line_table n s text)
@@ -36,71 +34,59 @@ unfolding said_by
 said_on s text texts = refl
 
 -- what is known after some lines
-pub record Reading (sheet : List ℕ) (at n : ℕ) (p : Page) : Type 0 where
-  pub good : Good p
-  pub table : first_of (lines_table n (sheet_of p) (lines (drop at sheet))) ≡ first_of (lines_table 1 blank (lines sheet))
-  pub whole : said_by (sheet_of p) (lines (drop at sheet)) ≡ said sheet
-  pub near : at ≤ length sheet
-  pub few : n ≤ at + 1
+pub record Reading (sheet rest : List ℕ) (n : ℕ) (s : Sheet) : Type 0 where
+  pub table : first_of (lines_table n s (lines rest)) ≡ first_of (lines_table 1 blank (lines sheet))
+  pub whole : said_by s (lines rest) ≡ said sheet
+  pub few : n + length rest ≤ length sheet + 1
 
-pub at_top : (sheet : List ℕ) (p : Page) → Good p → sheet_of p ≡ blank → Reading sheet 0 1 p
-at_top sheet p g e = record {
-  good = g;
-  table = ap (λ (s : Sheet). first_of (lines_table 1 s (lines sheet))) e;
-  whole = ap (λ (s : Sheet). said_by s (lines sheet)) e;
-  near = omega arith;
+pub at_top : (sheet : List ℕ) (s : Sheet) → s ≡ blank → Reading sheet sheet 1 s
+at_top sheet s e = record {
+  table = ap (λ (x : Sheet). first_of (lines_table 1 x (lines sheet))) e;
+  whole = ap (λ (x : Sheet). said_by x (lines sheet)) e;
   few = omega arith;
 }
 
 -- a line is refused
-pub line_stops : (sheet : List ℕ) (at n end : ℕ) (p : Page) (t : Told) → Reading sheet at n p → lines (drop at sheet) ≡ take (end - at) (drop at sheet) ∷ lines (drop (end + 1) sheet)
-    → Some t ≡ first_of (line_table n (sheet_of p) (take (end - at) (drop at sheet))) → Some t ≡ first_of (lines_table 1 blank (lines sheet))
-line_stops sheet at n end p t w l e =
-    let text = take (end - at) (drop at sheet) in
-    sym (hit_front (line_table n (sheet_of p) text) (lines_table (suc n) (with_said (sheet_of p) (row_of text)) (lines (drop (end + 1) sheet))) t (sym e))
-    ∙ ap first_of (sym (lines_on n (sheet_of p) text (drop (end + 1) sheet)))
-    ∙ ap (λ (ts : List (List ℕ)). first_of (lines_table n (sheet_of p) ts)) (sym l)
+pub line_stops : (sheet rest text after : List ℕ) (n : ℕ) (s : Sheet) (t : Told) → Reading sheet rest n s → lines rest ≡ text ∷ lines after → Some t ≡ first_of (line_table n s text)
+    → Some t ≡ first_of (lines_table 1 blank (lines sheet))
+line_stops sheet rest text after n s t w l e =
+    sym (hit_front (line_table n s text) (lines_table (suc n) (with_said s (row_of text)) (lines after)) t (sym e))
+    ∙ ap first_of (sym (lines_on n s text after))
+    ∙ ap (λ (ts : List (List ℕ)). first_of (lines_table n s ts)) (sym l)
     ∙ w.table
 
 -- a line is taken
-pub line_goes : (sheet : List ℕ) (at n end : ℕ) (p q : Page) → Reading sheet at n p → at ≤ end → end < length sheet → lines (drop at sheet) ≡ take (end - at) (drop at sheet) ∷ lines (drop (end + 1) sheet)
-    → None ≡ first_of (line_table n (sheet_of p) (take (end - at) (drop at sheet))) → Good q → sheet_of q ≡ with_said (sheet_of p) (row_of (take (end - at) (drop at sheet)))
-    → Reading sheet (end + 1) (n + 1) q
-line_goes sheet at n end p q w a b l e g s =
-    let text = take (end - at) (drop at sheet) in
+pub line_goes : (sheet rest text after : List ℕ) (n : ℕ) (s u : Sheet) → Reading sheet rest n s → lines rest ≡ text ∷ lines after → length after < length rest → None ≡ first_of (line_table n s text)
+    → u ≡ with_said s (row_of text) → Reading sheet after (n + 1) u
+line_goes sheet rest text after n s u w l r e q =
     let m : suc n ≡ n + 1 = omega arith in
     let f = w.few in
     record {
-      good = g;
       table =
-          ap (λ (x : Sheet). first_of (lines_table (n + 1) x (lines (drop (end + 1) sheet)))) s
-          ∙ ap (λ (k : ℕ). first_of (lines_table k (with_said (sheet_of p) (row_of text)) (lines (drop (end + 1) sheet)))) (sym m)
-          ∙ sym (pass_longer (line_table n (sheet_of p) text) (lines_table (suc n) (with_said (sheet_of p) (row_of text)) (lines (drop (end + 1) sheet))) (sym e))
-          ∙ ap first_of (sym (lines_on n (sheet_of p) text (drop (end + 1) sheet)))
-          ∙ ap (λ (ts : List (List ℕ)). first_of (lines_table n (sheet_of p) ts)) (sym l)
+          ap (λ (x : Sheet). first_of (lines_table (n + 1) x (lines after))) q
+          ∙ ap (λ (k : ℕ). first_of (lines_table k (with_said s (row_of text)) (lines after))) (sym m)
+          ∙ sym (pass_longer (line_table n s text) (lines_table (suc n) (with_said s (row_of text)) (lines after)) (sym e))
+          ∙ ap first_of (sym (lines_on n s text after))
+          ∙ ap (λ (ts : List (List ℕ)). first_of (lines_table n s ts)) (sym l)
           ∙ w.table;
       whole =
-          ap (λ (x : Sheet). said_by x (lines (drop (end + 1) sheet))) s
-          ∙ sym (said_on (sheet_of p) text (lines (drop (end + 1) sheet)))
-          ∙ ap (λ (ts : List (List ℕ)). said_by (sheet_of p) ts) (sym l)
+          ap (λ (x : Sheet). said_by x (lines after)) q
+          ∙ sym (said_on s text (lines after))
+          ∙ ap (λ (ts : List (List ℕ)). said_by s ts) (sym l)
           ∙ w.whole;
-      near = omega arith;
       few = omega arith;
     }
 
 -- no line is left
-pub at_end : (sheet : List ℕ) (at n : ℕ) (p : Page) → Reading sheet at n p → lines (drop at sheet) ≡ drop at sheet ∷ [] → first_of (end_table n (sheet_of p) (length sheet - at)) ≡ first_of (lines_table 1 blank (lines sheet))
+pub at_end : (sheet rest : List ℕ) (n : ℕ) (s : Sheet) → Reading sheet rest n s → lines rest ≡ rest ∷ [] → first_of (end_table n s (length rest)) ≡ first_of (lines_table 1 blank (lines sheet))
 unfolding lines_table
-at_end sheet at n p w l =
-    ap (λ (k : ℕ). first_of (end_table n (sheet_of p) k)) (sym (length-drop at sheet))
-    ∙ ap (λ (ts : List (List ℕ)). first_of (lines_table n (sheet_of p) ts)) (sym l)
-    ∙ w.table
+at_end sheet rest n s w l = ap (λ (ts : List (List ℕ)). first_of (lines_table n s ts)) (sym l) ∙ w.table
 
 pub nothing_said : (s : Sheet) → said_by s ([] ∷ []) ≡ s
 unfolding said_by
 nothing_said s = ap (λ (o : Option Row). with_said s o) (sym (found [] None (empty_line [] refl)))
 
-pub all_said : (sheet : List ℕ) (at n : ℕ) (p : Page) → Reading sheet at n p → lines (drop at sheet) ≡ drop at sheet ∷ [] → length sheet - at ≡ 0 → sheet_of p ≡ said sheet
-all_said sheet at n p w l z =
-    let d : drop at sheet ≡ [] = drop_all at sheet (omega arith) in
-    sym (nothing_said (sheet_of p)) ∙ ap (λ (xs : List ℕ). said_by (sheet_of p) (xs ∷ [])) (sym d) ∙ ap (λ (ts : List (List ℕ)). said_by (sheet_of p) ts) (sym l) ∙ w.whole
+pub all_said : (sheet rest : List ℕ) (n : ℕ) (s : Sheet) → Reading sheet rest n s → lines rest ≡ rest ∷ [] → length rest ≡ 0 → s ≡ said sheet
+all_said sheet rest n s w l z =
+    let d : rest ≡ [] = nil_from_length rest z in
+    sym (nothing_said s) ∙ ap (λ (xs : List ℕ). said_by s (xs ∷ [])) (sym d) ∙ ap (λ (ts : List (List ℕ)). said_by s ts) (sym l) ∙ w.whole

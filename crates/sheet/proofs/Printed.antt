@@ -1,5 +1,6 @@
 -- What the plan program prints: a plan that was drawn, or the refused line.
 use Rattle.std.proofs.Common.{◌≡◌, ℕ, ◌<◌, Bool, true, false, cond, ltb, List, [], ◌∷◌, ◌++◌, length, drop, is_ok, IfOk, Some, None, Ok, Err, Option, Result, sym, refl, ap, ◌∙◌, subst, arith}
+use Rattle.std.specs.Result.{result_unwrap_or as unwrap_or}
 use Rattle.std.proofs.lemmas.List.{length-append, length-drop}
 use Rattle.std.proofs.lemmas.Bool.{ltb-true, ltb-false}
 use Rattle.print.proofs.Lengths.{energy_length, refused_length}
@@ -66,8 +67,13 @@ printed_some size sheet = by (first_of (sheet_table size sheet))
         let a = length-append (segments_text (plan (said sheet).steps (said sheet).jobs)) (energy_text e) in
         omega arith
 
-pub prints : (size n : ℕ) (sheet entry exit : List ℕ) → fitting (printed size sheet) entry exit (Ok n) → Prints (printed size sheet) entry exit n
+prints : (size n : ℕ) (sheet entry exit : List ℕ) → fitting (printed size sheet) entry exit (Ok n) → Prints (printed size sheet) entry exit n
 prints size n sheet entry exit f =
     let s = printed_some size sheet in
     let m = f.1 in
     record { nothing = λ z. absurd (omega arith); something = λ _. (m, f.2) }
+
+-- and so what is answered in all
+pub prints_or : (size n : ℕ) (sheet entry exit : List ℕ) (r : Result ℕ Refusal) → fitting (printed size sheet) entry exit r → n ≡ unwrap_or r 0 → Prints (printed size sheet) entry exit n
+prints_or size n sheet entry exit (Ok m) f e = subst (λ (k : ℕ). Prints (printed size sheet) entry exit k) (sym e) (prints size m sheet entry exit f)
+prints_or size n sheet entry exit (Err y) f e = record { nothing = λ z. f.2; something = λ l. absurd (omega arith) }

@@ -4,7 +4,6 @@ ghost use Rattle.grammar.specs.Pieces.{lines};
 ghost use Rattle.refusal.specs.Refusals.{first_of};
 ghost use Rattle.sheet.specs.Answers.{drawn_text, fault_reply, filled_unless, length_unless, sheet_answer, sheet_filled};
 ghost use Rattle.sheet.specs.Laws.{IsPrinted, ReadsBack};
-ghost use Rattle.sheet.specs.Pages.{Good, sheet_of};
 ghost use Rattle.sheet.specs.Sheets.{blank, lines_table};
 
 use crate::fault::Fault;
@@ -21,15 +20,14 @@ const LEAST_ROOM: usize = 16_384;
 impl Page {
     // Reads a sheet, and writes its plan as text from the buffer's start.
     fn fill(&mut self, sheet: &[u8], out: &mut [u8]) -> Result<usize, Fault>
-        requires good { Good self.old }
-        requires blank { sheet_of self.old ≡ blank }
+        requires blank { self.old ≡ blank }
         requires room { 16384 ≤ length out.old }
         ensures answer { fault_reply result ≡ length_unless (first_of (lines_table 1 blank (lines sheet.now))) (drawn_text sheet.now) }
         ensures buffer { out.new ≡ filled_unless (first_of (lines_table 1 blank (lines sheet.now))) (drawn_text sheet.now) out.old }
     {
-        self.read(sheet)?;
-        let segments = self.planned.segments;
-        Ok(put_plan(out, &self.segments[0..segments], self.planned.energy))
+        let left = self.read(sheet)?;
+        let drawing = self.end(left)?;
+        Ok(put_plan(out, drawing.segments, drawing.energy))
     }
 }
 

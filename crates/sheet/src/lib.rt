@@ -8,3 +8,4 @@ mod page;
 mod reading;
 pub mod refused;
 mod rows;
+pub mod shown;

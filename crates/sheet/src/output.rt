@@ -17,8 +17,7 @@ pub fn print_sheet(
 ) -> Result<Result<usize, Refusal>, AllocError>
     ensures { MatchResult result (λ a. fitting (printed (length out.old) sheet.now) out.old out.new a) (λ _. out.new ≡ out.old) }
 {
-    let drawn = draw(heap, sheet, out)?;
-    match drawn {
+    match draw(heap, sheet, out)? {
         Ok(length) => Ok(Ok(length)),
         Err(fault) => Ok(refused_line(fault, out)),
     }
@@ -32,8 +31,5 @@ pub fn nofjerm_plan_sheet(heap: Global, sheet: &[u8], out: &mut [u8]) -> usize
     let Ok(answer) = print_sheet(heap, sheet, out) else {
         return 0;
     };
-    match answer {
-        Ok(length) => length,
-        Err(_) => 0,
-    }
+    answer.unwrap_or(0)
 }

@@ -27,11 +27,8 @@ impl Fault {
         ensures { result ≡ (fault_told self).detail }
     {
         match self {
-            Fault::Bytes => 0,
-            Fault::Room => 0,
-            Fault::Long { line } => line,
-            Fault::Malformed { line } => line,
-            Fault::Refused { line } => line,
+            Fault::Bytes | Fault::Room => 0,
+            Fault::Long { line } | Fault::Malformed { line } | Fault::Refused { line } => line,
         }
     }
 }

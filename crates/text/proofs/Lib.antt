@@ -1,2 +1,3 @@
-pub mod Partway
+pub mod Reading
 pub mod Spelled
+pub mod Written

@@ -1,41 +1,44 @@
 // Reading a number.
-ghost use Rattle.text.specs.Numerals.{DigitAt, NumberAt};
-
-// The digit at a place, if one stands there.
-fn digit_at(bytes: &[u8], at: usize) -> Option<u64>
-    ensures { DigitAt bytes.now at result }
-{
-    if at >= bytes.len() {
-        return None;
-    }
-    let byte = bytes[at];
-    if byte < b'0' || byte > b'9' {
-        return None;
-    }
-    Some(u64::from(byte - b'0'))
-}
+ghost use Rattle.std.specs.Prelude.{◌≡◌, ◌≤◌, length, MatchOption};
+ghost use Rattle.std.specs.List.{prefix_len};
+ghost use Rattle.std.specs.Char.{is_ascii_digit};
+ghost use Rattle.std.specs.Str.Parse.{AllDigits, digits_value};
+ghost use Rattle.text.specs.Numerals.{Begins, BeginsNone};
 
 // How many digits a number has at the most.
 const DIGITS: usize = 10;
 
-// Reads the number of at most ten digits at a place, and answers it with the place after it.
-pub fn read_number(bytes: &[u8], start: usize) -> Option<(u64, usize)>
-    ensures { NumberAt bytes.now start result }
+// How many digits a text begins with.
+fn count_digits(text: &[u8]) -> usize
+    ensures { result ≡ prefix_len is_ascii_digit text.now }
 {
-    let mut at = start;
+    text.iter().take_while(|byte| byte.is_ascii_digit()).count()
+}
+
+// The value of a few digits.
+fn value(digits: &[u8]) -> u64
+    requires few { length digits.now ≤ 10 }
+    requires digits { AllDigits 10 digits.now }
+    ensures { result ≡ digits_value 10 digits.now }
+{
     let mut n = 0;
-    while let Some(digit) = digit_at(bytes, at) {
-        if at - start >= DIGITS {
-            return None;
-        }
-        n = 10 * n + digit;
-        at += 1;
+    for digit in digits {
+        n = 10 * n + u64::from(*digit - b'0');
     }
-    if at == start {
+    n
+}
+
+// Reads the number of at most ten digits that a text begins with, and answers it with the text after it.
+pub fn read_number(text: &[u8]) -> Option<(u64, &[u8])>
+    ensures { MatchOption result (BeginsNone text.now) (λ r. Begins text.now r.0 r.1.now) }
+{
+    let (digits, rest) = text.split_at(count_digits(text));
+    let first = *digits.first()?;
+    if digits.len() > DIGITS {
         return None;
     }
-    if bytes[start] == b'0' && at - start > 1 {
+    if first == b'0' && digits.len() > 1 {
         return None;
     }
-    Some((n, at))
+    Some((value(digits), rest))
 }

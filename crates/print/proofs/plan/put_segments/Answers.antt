@@ -1,24 +1,25 @@
-use Rattle.std.proofs.Common.{arith}
-use Rattle.print.proofs.Putting.{none_put, next_fits, one_put, all_put}
+use Rattle.std.proofs.Common.{ap, sym, arith}
+use Rattle.std.proofs.lemmas.List.{take_all}
+use Rattle.text.proofs.Written.{wrote_none, wrote_on, wrote_as}
+use Rattle.print.specs.Texts.{segments_text}
+use Rattle.print.proofs.Lengths.{next_segment, segments_more, segments_within}
 use Rattle.print.proofs.plan.put_segments.Goals as goal
 
-pub loop-k-init : goal.loop-k-init
-loop-k-init c = none_put c.args.out.now c.args.segments.now
+pub loop-segment-init : goal.loop-segment-init
+unfolding segments_text
+loop-segment-init c = wrote_none _
 
-pub put_segment-at-requires : goal.put_segment-at-requires
-put_segment-at-requires c =
-    let l = c.loop-k in
-    let f = next_fits c.args.out.now l.out c.args.segments.now l.k l.at l.invariant (omega arith) c.requires in
-    omega (arith, l.auto.out, f)
+pub put_segment-requires : goal.put_segment-requires
+put_segment-requires c =
+    let l = c.loop-segment in
+    let n = next_segment c.args.segments.now l.segment-index (omega arith) in
+    omega (arith, l.invariant.place, l.invariant.size, n, c.requires)
 
-pub loop-k-preserved : goal.loop-k-preserved
-loop-k-preserved c =
-    let l = c.loop-k in
-    one_put c.args.out.now l.out c.put_segment-at.new.out c.args.segments.now l.k l.at c.put_segment-at.result l.invariant (omega arith) c.requires
-    (record { place = c.put_segment-at.ensures.place; bytes = c.put_segment-at.ensures.bytes })
+pub loop-segment-preserved : goal.loop-segment-preserved
+loop-segment-preserved c =
+    let l = c.loop-segment in
+    let d = segments_within c.args.segments.now l.segment-index in
+    wrote_as (wrote_on l.invariant c.put_segment.ensures (omega (arith, l.invariant.place, c.requires))) (sym (segments_more c.args.segments.now l.segment-index (omega arith)))
 
 pub returns : goal.returns
-returns c =
-    let l = c.loop-k in
-    let e = all_put c.args.out.now l.out c.args.segments.now l.k l.at l.invariant (omega arith) in
-    record { place = omega (arith, e.place); bytes = e.bytes }
+returns c = wrote_as c.loop-segment.invariant (ap segments_text (take_all _ c.args.segments.now (omega arith)))

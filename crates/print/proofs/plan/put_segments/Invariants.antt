@@ -1,6 +1,8 @@
-use Rattle.print.proofs.Putting.{SegmentsPut}
+use Rattle.std.proofs.Common.{take}
+use Rattle.print.specs.Texts.{segments_text}
+use Rattle.text.specs.Writing.{Wrote}
 use Rattle.print.proofs.plan.put_segments.Given as goal
 
--- k segments are written
-abbrev pub invariant-loop-k : goal.invariant-loop-k
-invariant-loop-k l = SegmentsPut l.initial.out l.out l.segments l.k l.at
+-- some segments are written
+abbrev pub invariant-loop-segment : goal.invariant-loop-segment
+invariant-loop-segment l = Wrote l.fn.pen l.pen (segments_text (take l.segment-index l.fn.segments))

@@ -1,15 +1,16 @@
-use Rattle.sheet.proofs.Taking.{rung_late, rung_over, rung_placed}
+use Rattle.std.proofs.Common.{◌≡◌, Ok, Some, MatchResult, rules}
+use Rattle.refusal.specs.Refusals.{told}
+use Rattle.sheet.specs.Answers.{fault_outcome}
+use Rattle.sheet.proofs.Taking.{seen, rung_late, rung_told}
 use Rattle.sheet.proofs.page.Page.place_rung.Goals as goal
 
 pub returns-in_default : goal.returns-in_default
-returns-in_default c = record { answer = rung_late c.args.self.now c.args.step c.args.line c.requires.good c.requires.begun c.in_default.not-Rungs; good = tt; after = tt }
-
-pub returns-then-self-ge16 : goal.returns-then-self-ge16
-returns-then-self-ge16 c = record { answer = rung_over c.args.self.now c.args.step c.args.line c.requires.good c.if-self-ge16.true; good = tt; after = tt }
-
-pub returns : goal.returns
-returns c = record {
-  answer = rung_placed c.args.self.now c.args.step c.args.line c.requires.good c.in-Rungs.is c.if-self-ge16.false;
-  good = c.take_rung.ensures.good;
-  after = c.take_rung.ensures.after;
+returns-in_default c = record {
+  answer = rung_late c.self.inside c.args.self.now c.args.step c.args.line (seen c.self.invariant c.self.view_is) c.requires c.in_default.not-Rungs;
+  after = tt;
 }
+
+pub returns-clause-answer : goal.returns-clause-answer
+returns-clause-answer c =
+    let f : MatchResult c.try_push.result (λ x. c.map_err.result ≡ Ok x) (λ _. fault_outcome c.map_err.result ≡ Some (told 30 c.args.line)) = search rules in
+    rung_told c.self.inside c.args.self.now c.args.step c.args.line c.try_push.result c.map_err.result (seen c.self.invariant c.self.view_is) c.requires c.in-Rungs.is c.try_push.ensures.variant c.try_push.ensures.full f

@@ -1,27 +1,25 @@
-use Rattle.std.proofs.Common.{Some, None, Option, refl, ap, ◌∙◌}
+use Rattle.std.proofs.Common.{◌≡◌, Some, None, Option, ap, sym, ◌∙◌}
+use Rattle.std.specs.Option.{ok_or}
+use Rattle.std.proofs.lemmas.Result.{err_from_is_err_and}
 use Rattle.grammar.specs.declared.row.Row.{Row}
-use Rattle.sheet.specs.Pages.{sheet_of}
-use Rattle.sheet.specs.Sheets.{with_said}
+use Rattle.sheet.specs.declared.fault.Fault.TheVariants.{Malformed}
 use Rattle.sheet.proofs.Lines.{line_long, line_said}
-use Rattle.sheet.proofs.Taking.{made_same}
+use Rattle.sheet.proofs.Taking.{faulted_as}
 use Rattle.sheet.proofs.page.Page.take_line.Goals as goal
 
-pub returns-then-text-gt63 : goal.returns-then-text-gt63
-returns-then-text-gt63 c = record { answer = line_long c.args.line (sheet_of c.args.self.now) c.args.text.now c.if-text-gt63.true; good = tt; after = tt }
+pub returns-then-text-gt-LONGEST_LINE-clause-answer : goal.returns-then-text-gt-LONGEST_LINE-clause-answer
+returns-then-text-gt-LONGEST_LINE-clause-answer c = line_long c.args.line c.args.self.now c.args.text.now c.if-text-gt-LONGEST_LINE.true
 
-pub returns-in-Some : goal.returns-in-Some
-returns-in-Some c =
-    let s = sheet_of c.args.self.now in
-    let v = c.in-Some.ensures.value in
-    record {
-      answer = c.take.ensures.answer ∙ line_said c.args.line s c.args.text.now (Some c.in-Some.row) c.if-text-gt63.false v;
-      good = c.take.ensures.good;
-      after = made_same c.take.result c.take.result refl (λ x. x ∙ ap (λ (o : Option Row). with_said s o) v) c.take.ensures.after;
-    }
+pub returns-in_err-row-clause-answer : goal.returns-in_err-row-clause-answer
+returns-in_err-row-clause-answer c =
+    let y = err_from_is_err_and c.from_residual.result c.from_residual.ensures.1 in
+    let i = c.in_err-row.ensures in
+    let e = i.value ∙ ap (λ (o : Option Row). ok_or o (Malformed c.args.line)) i.ok_part in
+    let m : c.in_err-row.field-0.0 ≡ Malformed c.args.line = cc in
+    faulted_as c.from_residual.result (Malformed c.args.line) (y.0, y.1, y.2 ∙ m)
+    ∙ line_said c.args.line c.args.self.now c.args.text.now None c.if-text-gt-LONGEST_LINE.false (sym i.ok_part ∙ c.read_row.ensures.value)
 
-pub returns-in-None : goal.returns-in-None
-returns-in-None c = record {
-  answer = line_said c.args.line (sheet_of c.args.self.now) c.args.text.now None c.if-text-gt63.false c.in-None.ensures.value;
-  good = tt;
-  after = tt;
-}
+pub returns-clause-answer : goal.returns-clause-answer
+returns-clause-answer c =
+    c.take.ensures.answer
+    ∙ line_said c.args.line c.args.self.now c.args.text.now (Some c.in_ok-row.row) c.if-text-gt-LONGEST_LINE.false (sym c.in_ok-row.ensures.ok_part ∙ c.read_row.ensures.value)

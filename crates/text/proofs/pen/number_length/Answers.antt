@@ -1,7 +1,7 @@
 use Rattle.std.proofs.Common.{◌+◌, ◌/◌, ◌%◌, length, decimal, ap, ◌∙◌, arith, lit<}
 use Rattle.std.proofs.lemmas.Fmt.{decimal_digit, decimal_step, length-decimal-le}
 use Rattle.std.proofs.lemmas.List.{length_push}
-use Rattle.text.proofs.write.number_length.Goals as goal
+use Rattle.text.proofs.pen.number_length.Goals as goal
 
 pub overflow_add-length : goal.overflow_add-length
 overflow_add-length c =

@@ -1,5 +1,5 @@
 use Rattle.std.proofs.Common.{◌≡◌, ◌+◌, ◌^◌, ◌<◌, length, decimal}
-use Rattle.text.proofs.write.number_length.Given as goal
+use Rattle.text.proofs.pen.number_length.Given as goal
 
 -- digits are counted, and those of the rest are to come
 abbrev pub invariant-loop-rest : goal.invariant-loop-rest
