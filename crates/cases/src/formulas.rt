@@ -1,14 +1,12 @@
 // Formulas that are taken and formulas that are refused: each limit met, and passed by one.
+use crate::answers::told;
 use processor::formula::Formula;
 use processor::processor::Processor;
 use std::test::*;
 
 // What a formula of these figures is answered, 0 and 0 where it was accepted.
 fn tried(count: usize, stride: u64, constant: u64, linear: u64, cubic: u64) -> (u32, usize) {
-    match Formula::new(count, stride, constant, linear, cubic) {
-        Ok(_) => (0, 0),
-        Err(why) => (why.number(), why.detail()),
-    }
+    told(Formula::new(count, stride, constant, linear, cubic))
 }
 
 #[test]
@@ -35,15 +33,11 @@ fn limits(rt: HostRuntime) -> Result<(), Fail> {
 
 #[test]
 fn steps(rt: HostRuntime) -> Result<(), Fail> {
-    match Formula::new(4, 5, 1, 5, 2) {
-        Ok(formula) => {
-            assert_eq!(rt; formula.count(), 4);
-            assert_eq!(rt; formula.speed(3), 15);
-            assert_eq!(rt; formula.power(3), 70);
-            assert_eq!(rt; formula.speed(4), 0);
-            assert_eq!(rt; formula.power(4), 0);
-            Ok(())
-        }
-        Err(why) => Err(Fail::new(why.number())),
-    }
+    let formula = Formula::new(4, 5, 1, 5, 2).map_err(|why| Fail::new(why.number()))?;
+    assert_eq!(rt; formula.count(), 4);
+    assert_eq!(rt; formula.speed(3), 15);
+    assert_eq!(rt; formula.power(3), 70);
+    assert_eq!(rt; formula.speed(4), 0);
+    assert_eq!(rt; formula.power(4), 0);
+    Ok(())
 }

@@ -1,17 +1,9 @@
 // Ladders that are taken and ladders that are refused: each limit met, and passed by one.
+use crate::answers::told;
 use model::step::Step;
 use processor::ladder::Ladder;
 use processor::processor::Processor;
-use refusal::refusal::Refusal;
 use std::test::*;
-
-// The number and the detail of an answer, 0 and 0 where it was accepted.
-fn told(answer: Result<(), Refusal>) -> (u32, usize) {
-    match answer {
-        Ok(()) => (0, 0),
-        Err(why) => (why.number(), why.detail()),
-    }
-}
 
 // A step of this speed and this power.
 fn step(speed: u64, power: u64) -> Step {
@@ -20,7 +12,7 @@ fn step(speed: u64, power: u64) -> Step {
 
 // What a ladder of exactly these steps is answered.
 fn made(steps: &[Step]) -> (u32, usize) {
-    told(Ladder::of(steps).map(|_| ()))
+    told(Ladder::of(steps))
 }
 
 // What a ladder of these first steps and this count is answered.
@@ -179,14 +171,11 @@ fn slices_of_steps(rt: HostRuntime) -> Result<(), Fail> {
 
 #[test]
 fn a_ladder_has_its_steps(rt: HostRuntime) -> Result<(), Fail> {
-    match Ladder::of(&[step(0, 10), step(1, 12), step(2, 20), step(4, 60)]) {
-        Ok(ladder) => {
-            assert_eq!(rt; ladder.count(), 4);
-            assert_eq!(rt; ladder.speed(3), 4);
-            assert_eq!(rt; ladder.power(3), 60);
-            assert_eq!(rt; ladder.speed(4), 0, "a step that it lacks");
-            Ok(())
-        }
-        Err(why) => Err(Fail::new(why.number())),
-    }
+    let made = Ladder::of(&[step(0, 10), step(1, 12), step(2, 20), step(4, 60)]);
+    let ladder = made.map_err(|why| Fail::new(why.number()))?;
+    assert_eq!(rt; ladder.count(), 4);
+    assert_eq!(rt; ladder.speed(3), 4);
+    assert_eq!(rt; ladder.power(3), 60);
+    assert_eq!(rt; ladder.speed(4), 0, "a step that it lacks");
+    Ok(())
 }

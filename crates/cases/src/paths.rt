@@ -1,5 +1,6 @@
 // Paths on which a sweep that keeps its apex too long goes wrong.
 use model::job::Job;
+use model::point::Point;
 use planner::path::path;
 use queue::queue::Queue;
 use std::test::*;
@@ -23,16 +24,15 @@ fn queue_of(rt: &HostRuntime, jobs: &[Job]) -> Result<Queue, Fail> {
 }
 
 // Whether the path of the jobs has these corners.
-fn bends_at(rt: &HostRuntime, jobs: &[Job], corners: &[(u32, u32)]) -> Result<(), Fail> {
+fn bends_at(rt: &HostRuntime, jobs: &[Job], corners: &[Point]) -> Result<(), Fail> {
     let queue = queue_of(rt, jobs)?;
     let path = path(&queue);
-    let found = path.points();
-    check(found.len() == corners.len(), "more corners, or fewer")?;
-    for (point, (time, height)) in found.iter().zip(corners) {
-        check(point.time == *time, "a corner at another time")?;
-        check(point.height == *height, "a corner at another height")?;
-    }
-    Ok(())
+    check(path.points() == corners, "other corners")
+}
+
+// A corner at this time and this height.
+fn corner(time: u32, height: u32) -> Point {
+    Point { time, height }
 }
 
 #[test]
@@ -51,7 +51,7 @@ fn one_rise(rt: HostRuntime) -> Result<(), Fail> {
             account: 2,
         },
     ];
-    bends_at(&rt, &jobs, &[(3, 0), (11, 9)])
+    bends_at(&rt, &jobs, &[corner(3, 0), corner(11, 9)])
 }
 
 #[test]
@@ -82,5 +82,5 @@ fn two_falls(rt: HostRuntime) -> Result<(), Fail> {
             account: 2,
         },
     ];
-    bends_at(&rt, &jobs, &[(1, 10), (12, 40), (14, 41)])
+    bends_at(&rt, &jobs, &[corner(1, 10), corner(12, 40), corner(14, 41)])
 }

@@ -10,7 +10,6 @@ use processor::formula::Formula;
 use processor::ladder::Ladder;
 use processor::processor::Processor;
 use queue::queue::Queue;
-use refusal::refusal::Refusal;
 
 // The jobs of the evening.
 const JOBS: [Job; 5] = [
@@ -70,12 +69,6 @@ const CLOCK: [Step; 5] = [
     },
 ];
 
-// A refusal.
-fn tell(rt: &impl Print, refusal: Refusal) -> anyhow::Result<()> {
-    println!(rt; "refused: {refusal}")?;
-    Ok(())
-}
-
 // The corners of the path.
 fn show_path(rt: &impl Print, queue: &Queue) -> anyhow::Result<()> {
     println!(rt; "path")?;
@@ -106,26 +99,27 @@ fn show_plan<P: Processor>(
             }
             let energy = planned.energy;
             println!(rt; "  energy {energy}")?;
-            Ok(())
         }
-        Err(why) => tell(rt, why),
+        Err(why) => println!(rt; "refused: {why}")?,
     }
+    Ok(())
 }
 
 fn main(rt: HostRuntime) -> anyhow::Result<()> {
     let mut queue = Queue::new(rt.alloc())?;
     for job in JOBS {
         if let Err(why) = queue.push(job) {
-            tell(&rt, why)?;
+            println!(rt; "refused: {why}")?;
         }
     }
     show_path(&rt, &queue)?;
     match Ladder::of(&CLOCK) {
         Ok(ladder) => show_plan(&rt, "ladder", &queue, &ladder)?,
-        Err(why) => tell(&rt, why)?,
+        Err(why) => println!(rt; "refused: {why}")?,
     }
     match Formula::new(8, 252, 90, 20, 12) {
-        Ok(formula) => show_plan(&rt, "formula", &queue, &formula),
-        Err(why) => tell(&rt, why),
+        Ok(formula) => show_plan(&rt, "formula", &queue, &formula)?,
+        Err(why) => println!(rt; "refused: {why}")?,
     }
+    Ok(())
 }

@@ -39,12 +39,6 @@ const CLOCK: [Step; 5] = [
     },
 ];
 
-// A refusal.
-fn tell(rt: &impl Print, what: &str, refusal: Refusal) -> anyhow::Result<()> {
-    println!(rt; "{what}: refused {refusal}")?;
-    Ok(())
-}
-
 // A job is entered.
 fn enter(rt: &impl Print, book: &mut Book, job: Job) -> anyhow::Result<()> {
     let arrival = job.arrival;
@@ -52,14 +46,12 @@ fn enter(rt: &impl Print, book: &mut Book, job: Job) -> anyhow::Result<()> {
     let work = job.work;
     let account = job.account;
     match book.enter(job) {
-        Ok(()) => {
-            println!(rt;
-                "enter: data in at {arrival}, due at {deadline}, work {work}, account {account}"
-            )?;
-            Ok(())
-        }
-        Err(why) => tell(rt, "enter", why),
+        Ok(()) => println!(rt;
+            "enter: data in at {arrival}, due at {deadline}, work {work}, account {account}"
+        )?,
+        Err(why) => println!(rt; "enter: refused {why}")?,
     }
+    Ok(())
 }
 
 // A job is held; its price is shown, and its slip is spent.
@@ -82,10 +74,10 @@ fn hold<F: FnOnce(&mut Book, Slip) -> Result<(), (Slip, Refusal)>>(
                 Err((_slip, _why)) => unreachable(),
             }
             println!(rt; "hold: one job more would cost {price}; {what}")?;
-            Ok(())
         }
-        Err(why) => tell(rt, "hold", why),
+        Err(why) => println!(rt; "hold: refused {why}")?,
     }
+    Ok(())
 }
 
 // The plan of the standing jobs, in a lent buffer.
@@ -104,10 +96,10 @@ fn plan(
             }
             let energy = planned.energy;
             println!(rt; "plan: energy {energy}")?;
-            Ok(())
         }
-        Err(why) => tell(rt, "plan", why),
+        Err(why) => println!(rt; "plan: refused {why}")?,
     }
+    Ok(())
 }
 
 // The charges of the house and of each account that pays, and their sum.
@@ -195,7 +187,7 @@ fn evening(rt: &impl Print, book: &mut Book, ladder: &Ladder) -> anyhow::Result<
     )?;
     match book.strike() {
         Ok(()) => println!(rt; "strike: the last job is gone")?,
-        Err(why) => tell(rt, "strike", why)?,
+        Err(why) => println!(rt; "strike: refused {why}")?,
     }
     hold(
         rt,
@@ -214,7 +206,7 @@ fn evening(rt: &impl Print, book: &mut Book, ladder: &Ladder) -> anyhow::Result<
     plan(rt, book, ladder, &mut [Segment::default(); 32])?;
     match book.close(ladder) {
         Ok(energy) => println!(rt; "close: energy {energy}")?,
-        Err(why) => tell(rt, "close", why)?,
+        Err(why) => println!(rt; "close: refused {why}")?,
     }
     let count = book.count();
     println!(rt; "jobs left: {count}")?;
@@ -224,7 +216,8 @@ fn evening(rt: &impl Print, book: &mut Book, ladder: &Ladder) -> anyhow::Result<
 fn main(rt: HostRuntime) -> anyhow::Result<()> {
     let mut book = Book::new(rt.alloc(), 7)?;
     match Ladder::of(&CLOCK) {
-        Ok(ladder) => evening(&rt, &mut book, &ladder),
-        Err(why) => tell(&rt, "ladder", why),
+        Ok(ladder) => evening(&rt, &mut book, &ladder)?,
+        Err(why) => println!(rt; "ladder: refused {why}")?,
     }
+    Ok(())
 }

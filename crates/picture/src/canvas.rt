@@ -21,16 +21,13 @@ fn scaled(n: u64, whole: u64, length: u64) -> u64 {
 impl Canvas {
     // Axes on which all jobs of an evening and the speeds of its ladder have room.
     pub(crate) fn over(evening: &Evening) -> Canvas {
-        let mut span = 1u64;
-        let mut total = 0u64;
-        for job in evening.queue.jobs() {
-            span = span.max(job.deadline);
-            total = total.saturating_add(job.work);
-        }
+        let jobs = evening.queue.jobs();
         let last = evening.ladder.count().saturating_sub(1);
         Canvas {
-            span,
-            total,
+            span: jobs.iter().map(|job| job.deadline).max().unwrap_or(1),
+            total: jobs
+                .iter()
+                .fold(0u64, |sum, job| sum.saturating_add(job.work)),
             top: evening.ladder.speed(last),
         }
     }

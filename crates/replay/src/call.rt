@@ -1,6 +1,31 @@
 // The calls that a list can hold.
 use model::job::Job;
 use model::step::Step;
+use processor::formula::Formula;
+use refusal::refusal::Refusal;
+
+// The figures of a formula.
+#[derive(Clone, Copy)]
+pub struct Figures {
+    pub count: usize,
+    pub stride: u64,
+    pub constant: u64,
+    pub linear: u64,
+    pub cubic: u64,
+}
+
+impl Figures {
+    // The formula of these figures, or why there is none.
+    pub fn formula(self) -> Result<Formula, Refusal> {
+        Formula::new(
+            self.count,
+            self.stride,
+            self.constant,
+            self.linear,
+            self.cubic,
+        )
+    }
+}
 
 // A call, with what it is given. A slip stands as the number of the book that gave it out.
 #[derive(Drop)]
@@ -9,14 +34,8 @@ pub enum Call {
     Book(u16),
     // a ladder of these steps as the processor of later calls
     Ladder(Vec<Step>),
-    // a formula as the processor of later calls
-    Formula {
-        count: usize,
-        stride: u64,
-        constant: u64,
-        linear: u64,
-        cubic: u64,
-    },
+    // a formula of these figures as the processor of later calls
+    Formula(Figures),
     Enter(Job),
     Hold(Job),
     Take(u16),

@@ -86,14 +86,10 @@ impl Desk {
                 self.open(number)?;
                 Ok(Ok(Said::Done))
             }
-            Call::Ladder(steps) => Ok(self.make(Machine::ladder(steps.as_slice()))),
-            Call::Formula {
-                count,
-                stride,
-                constant,
-                linear,
-                cubic,
-            } => Ok(self.make(Machine::formula(count, stride, constant, linear, cubic))),
+            Call::Ladder(steps) => {
+                Ok(self.make(Ladder::of(steps.as_slice()).map(Machine::from)))
+            }
+            Call::Formula(figures) => Ok(self.make(figures.formula().map(Machine::from))),
             Call::Enter(job) => Ok(self.keeper.enter(job).map(Said::from)),
             Call::Hold(job) => Ok(self.machine.hold(&mut self.keeper, job).map(Said::from)),
             Call::Take(number) => self.bring(number, Way::Take),

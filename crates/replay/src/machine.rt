@@ -3,7 +3,6 @@ use crate::keeper::Keeper;
 use book::book::Book;
 use model::job::Job;
 use model::segment::Segment;
-use model::step::Step;
 use planner::plan::Planned;
 use processor::formula::Formula;
 use processor::ladder::Ladder;
@@ -16,23 +15,19 @@ pub enum Machine {
     Formula(Formula),
 }
 
+impl From<Ladder> for Machine {
+    fn from(ladder: Ladder) -> Machine {
+        Machine::Ladder(ladder)
+    }
+}
+
+impl From<Formula> for Machine {
+    fn from(formula: Formula) -> Machine {
+        Machine::Formula(formula)
+    }
+}
+
 impl Machine {
-    // The ladder of these steps.
-    pub fn ladder(steps: &[Step]) -> Result<Machine, Refusal> {
-        Ok(Machine::Ladder(Ladder::of(steps)?))
-    }
-
-    // The formula of these figures.
-    pub fn formula(
-        count: usize,
-        stride: u64,
-        constant: u64,
-        linear: u64,
-        cubic: u64,
-    ) -> Result<Machine, Refusal> {
-        Ok(Machine::Formula(Formula::new(count, stride, constant, linear, cubic)?))
-    }
-
     // Holds a job in a book on this processor, and answers the price.
     pub fn hold(&self, keeper: &mut Keeper, job: Job) -> Result<u64, Refusal> {
         match self {

@@ -1,5 +1,5 @@
 // Reading a call from its words.
-use crate::call::Call;
+use crate::call::{Call, Figures};
 use anyhow::anyhow;
 use model::job::Job;
 use model::step::Step;
@@ -53,21 +53,21 @@ fn read_named(heap: Global, name: &str, figures: &[u64]) -> anyhow::Result<Call>
     match (name, figures) {
         ("book", [number, 0]) => Ok(Call::Book(u16::try_from(*number)?)),
         ("ladder", _) => read_ladder(heap, figures),
-        ("formula", [count, stride, constant, linear, cubic]) => Ok(Call::Formula {
-            count: *count as usize,
+        ("formula", [count, stride, constant, linear, cubic]) => Ok(Call::Formula(Figures {
+            count: usize::try_from(*count)?,
             stride: *stride,
             constant: *constant,
             linear: *linear,
             cubic: *cubic,
-        }),
+        })),
         ("enter", _) => Ok(Call::Enter(read_job(figures)?)),
         ("hold", _) => Ok(Call::Hold(read_job(figures)?)),
         ("take", [number]) => Ok(Call::Take(u16::try_from(*number)?)),
         ("release", [number]) => Ok(Call::Release(u16::try_from(*number)?)),
         ("strike", [_]) => Ok(Call::Strike),
-        ("plan", [room]) => Ok(Call::Plan(*room as usize)),
+        ("plan", [room]) => Ok(Call::Plan(usize::try_from(*room)?)),
         ("close", []) => Ok(Call::Close),
-        ("charge", [account]) => Ok(Call::Charge(*account as usize)),
+        ("charge", [account]) => Ok(Call::Charge(usize::try_from(*account)?)),
         ("count", []) => Ok(Call::Count),
         _ => Err(anyhow!("no call has this name and so many figures")),
     }

@@ -51,9 +51,8 @@ pub fn bring_other(
     ensures foreign { (number ≡ (state book.old).number → ⊥) → state book.new ≡ state book.old }
 {
     let mut other = Book::new(heap, number)?;
-    let slip = match other.hold(SMALL, &Ladder::smallest()) {
-        Ok(slip) => slip,
-        Err(_) => return Err(anyhow!("a new book refused a small job")),
+    let Ok(slip) = other.hold(SMALL, &Ladder::smallest()) else {
+        return Err(anyhow!("a new book refused a small job"));
     };
     match way.bring(book, slip) {
         Ok(()) => Ok(Ok(())),

@@ -18,10 +18,9 @@ struct Count {
 fn printed<'a>(rt: &HostRuntime, name: &str, out: &'a mut [u8]) -> anyhow::Result<&'a [u8]> {
     let path = format!(in rt.alloc(); "{name}.in")?;
     let sheet = fs::read(rt, path.as_str())?;
-    match print_sheet(rt.alloc(), sheet.as_slice(), out)? {
-        Ok(length) => Ok(&out[..length]),
-        Err(_) => Err(anyhow!("no room for the answer")),
-    }
+    let answer = print_sheet(rt.alloc(), sheet.as_slice(), out)?;
+    let length = answer.map_err(|_| anyhow!("no room for the answer"))?;
+    Ok(&out[..length])
 }
 
 // Tries one sheet; says so where its answer is not the recorded one.

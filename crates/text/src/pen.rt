@@ -57,11 +57,8 @@ impl<'a> Pen<'a> {
 pub fn number_length(n: u64) -> usize
     ensures { result ≡ length (decimal n) }
 {
-    let mut length = 1;
-    let mut rest = n;
-    while rest >= 10 {
-        rest /= 10;
-        length += 1;
+    match n.checked_ilog10() {
+        Some(log) => log as usize + 1,
+        None => 1,
     }
-    length
 }

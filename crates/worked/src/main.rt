@@ -9,20 +9,13 @@ use model::job::Job;
 use model::segment::Segment;
 use model::step::Step;
 use processor::ladder::Ladder;
-use refusal::refusal::Refusal;
-
-// A refusal.
-fn tell(rt: &impl Print, what: &str, refusal: Refusal) -> anyhow::Result<()> {
-    println!(rt; "  {what}: refused {refusal}")?;
-    Ok(())
-}
 
 // A ladder that is tried on its own.
 fn try_ladder(rt: &impl Print, name: &str, steps: &[Step]) -> anyhow::Result<()> {
     println!(rt; "{name}")?;
     match Ladder::of(steps) {
         Ok(_) => println!(rt; "  ladder: made")?,
-        Err(why) => tell(rt, "ladder", why)?,
+        Err(why) => println!(rt; "  ladder: refused {why}")?,
     }
     Ok(())
 }
@@ -39,7 +32,7 @@ fn try_deadlines(rt: &HostRuntime) -> anyhow::Result<()> {
             account: 1,
         }) {
             Ok(()) => println!(rt; "  deadline {deadline}: taken")?,
-            Err(why) => tell(rt, "deadline past it", why)?,
+            Err(why) => println!(rt; "  deadline past it: refused {why}")?,
         }
     }
     Ok(())
@@ -59,10 +52,10 @@ fn show_plan(
             }
             let energy = planned.energy;
             println!(rt; "  energy {energy}")?;
-            Ok(())
         }
-        Err(why) => tell(rt, "plan", why),
+        Err(why) => println!(rt; "  plan: refused {why}")?,
     }
+    Ok(())
 }
 
 // The price of one job more, which is then let go.
@@ -75,10 +68,10 @@ fn show_price(rt: &impl Print, book: &mut Book, ladder: &Ladder, job: Job) -> an
                 Err((_slip, _why)) => unreachable(),
             }
             println!(rt; "  price of one job more {price}")?;
-            Ok(())
         }
-        Err(why) => tell(rt, "hold", why),
+        Err(why) => println!(rt; "  hold: refused {why}")?,
     }
+    Ok(())
 }
 
 // The close, with the charges of the house and of accounts 1 and 2.
@@ -90,10 +83,10 @@ fn show_close(rt: &impl Print, book: &mut Book, ladder: &Ladder) -> anyhow::Resu
                     println!(rt; "  charge of {account}: {energy}")?;
                 }
             }
-            Ok(())
         }
-        Err(why) => tell(rt, "close", why),
+        Err(why) => println!(rt; "  close: refused {why}")?,
     }
+    Ok(())
 }
 
 // One case of the table.
@@ -103,7 +96,7 @@ fn try_case(rt: &HostRuntime, case: &Case) -> anyhow::Result<()> {
     let mut book = Book::new(rt.alloc(), 1)?;
     for job in case.jobs {
         if let Err(why) = book.enter(*job) {
-            tell(rt, "enter", why)?;
+            println!(rt; "  enter: refused {why}")?;
         }
     }
     match Ladder::of(case.steps) {
@@ -115,10 +108,11 @@ fn try_case(rt: &HostRuntime, case: &Case) -> anyhow::Result<()> {
             for job in case.held {
                 show_price(rt, &mut book, &ladder, *job)?;
             }
-            show_close(rt, &mut book, &ladder)
+            show_close(rt, &mut book, &ladder)?;
         }
-        Err(why) => tell(rt, "ladder", why),
+        Err(why) => println!(rt; "  ladder: refused {why}")?,
     }
+    Ok(())
 }
 
 fn main(rt: HostRuntime) -> anyhow::Result<()> {
