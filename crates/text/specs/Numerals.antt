@@ -1,4 +1,4 @@
--- Numbers as text: what stands at a place in bytes reads as a number of at most ten digits, or does not.
+-- Numbers as text: what bytes begin with reads as a number of at most ten digits, or does not.
 use Rattle.std.specs.Prelude.{◌≡◌, ℕ, ◌<◌, List, [], ◌∷◌, ◌++◌, decimal}
 use Rattle.std.specs.Int.{IsInRange}
 
