@@ -17,6 +17,7 @@ fn limits(rt: HostRuntime) -> Result<(), Fail> {
         "every limit met"
     );
     assert_eq!(rt; tried(1, 0, 100_001, 0, 0), (1, 0), "the count comes first");
+    assert_eq!(rt; tried(0, 1, 0, 0, 0), (1, 0));
     assert_eq!(rt; tried(17, 1, 0, 0, 0), (1, 0));
     assert_eq!(rt; tried(2, 0, 100_001, 0, 0), (6, 0), "then the stride");
     assert_eq!(rt; tried(2, 11, 0, 0, 0), (6, 0), "11 does not divide 5,040");
@@ -25,6 +26,7 @@ fn limits(rt: HostRuntime) -> Result<(), Fail> {
         (6, 0),
         "280 does, but is above 252"
     );
+    assert_eq!(rt; tried(2, 253, 0, 0, 0), (6, 0), "one above the limit");
     assert_eq!(rt; tried(2, 1, 100_001, 10_001, 201), (7, 0));
     assert_eq!(rt; tried(2, 1, 100_000, 10_001, 201), (7, 1));
     assert_eq!(rt; tried(2, 1, 100_000, 10_000, 201), (7, 3));
