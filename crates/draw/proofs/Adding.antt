@@ -1,8 +1,6 @@
 -- Runs set after a plan one by one: what comes of it is what joining all of them from the right gives.
-use Rattle.std.proofs.Common.{◌≡◌, ℕ, ◌+◌, ◌-◌, ◌<◌, ◌≤◌, eqb, List, [], ◌∷◌, ◌++◌, length, get_or, take, drop, set, sym, refl, ap, ◌∙◌, subst, inl, inr, add_assoc, arith}
-use Rattle.std.proofs.lemmas.List.{append_assoc, append-nil, length-set, set-get_or, take_all, take_more, take_more_set}
-use Rattle.std.proofs.Math.Seq.{take-append_seam}
-use Rattle.std.specs.List.{refill}
+use Rattle.std.proofs.Common.{◌≡◌, ℕ, ◌+◌, ◌-◌, ◌<◌, ◌≤◌, eqb, List, [], ◌∷◌, ◌++◌, length, get_or, take, set, sym, refl, ap, ◌∙◌, subst, inl, inr, add_assoc, arith}
+use Rattle.std.proofs.lemmas.List.{append_assoc, append-nil, take_more, take_more_set}
 use Rattle.std.proofs.lemmas.Bool.{cond-true, cond-false, cases_eq, eq-eqb, ne_eqb}
 use Rattle.model.specs.Sums.{sum_of}
 use Rattle.model.specs.Plan.{segment, attach, joined, ticks_of}
@@ -163,69 +161,41 @@ ticks_gathered ns (s ∷ ss) = let a = ticks_gathered (added ns s) ss in let b =
 pub ticks_drawn : (xs ns ss : List Segment) → xs ≡ gathered ns ss → ticks_of xs ≡ ticks_of ns + ticks_of ss
 ticks_drawn xs ns ss e = ap ticks_of e ∙ ticks_gathered ns ss
 
--- some segments are those before the last, and the last
-ends : (xs : List Segment) (d : Segment) → 0 < length xs → xs ≡ take (length xs - 1) xs ++ (get_or xs (length xs - 1) d ∷ [])
-ends xs d l =
-    let q : length xs - 1 + 1 ≡ length xs = omega arith in
-    sym (take_all (length xs) xs (omega arith)) ∙ (ap (λ (m : ℕ). take m xs) (sym q) ∙ take_more xs (length xs - 1) d (omega arith))
-
-set_end : (xs : List Segment) (s : Segment) → 0 < length xs → set xs (length xs - 1) s ≡ take (length xs - 1) xs ++ (s ∷ [])
-set_end xs s l =
-    let q : length xs - 1 + 1 ≡ length xs = omega arith in
-    let k : length (set xs (length xs - 1) s) ≡ length xs = length-set xs (length xs - 1) s in
-    sym (take_all (length xs) (set xs (length xs - 1) s) (omega arith)) ∙ (ap (λ (m : ℕ). take m (set xs (length xs - 1) s)) (sym q) ∙ take_more_set xs (length xs - 1) s (omega arith))
-
--- the last has no more ticks than all of them
+-- the last of the first `n` segments has no more ticks than all of them
 ticks_last : (ys : List Segment) (s : Segment) → s.ticks ≤ ticks_of (ys ++ (s ∷ []))
 unfolding ticks_of sum_of
 ticks_last [] s = omega arith
 ticks_last (y ∷ ys) s = let a = ticks_last ys s in omega arith
 
-pub last_ticks : (xs : List Segment) (n : Segment) → 0 < length xs → n ≡ get_or xs (length xs - 1) n → n.ticks ≤ ticks_of xs
-last_ticks xs n l e =
-    let c = ap ticks_of (ends xs n l) in
-    let f = ticks_last (take (length xs - 1) xs) (get_or xs (length xs - 1) n) in
-    let g = ap (λ (x : Segment). x.ticks) e in
+pub last_ticks : (xs : List Segment) (n : ℕ) (d : Segment) → 0 < n → n ≤ length xs → (get_or xs (n - 1) d).ticks ≤ ticks_of (take n xs)
+last_ticks xs n d l k =
+    let e : n - 1 + 1 ≡ n = omega arith in
+    let a = take_more xs (n - 1) d (omega arith) in
+    let b : take n xs ≡ take (n - 1) xs ++ (get_or xs (n - 1) d ∷ []) = subst (λ (m : ℕ). take m xs ≡ take (n - 1) xs ++ (get_or xs (n - 1) d ∷ [])) e a in
+    let c = ap ticks_of b in
+    let f = ticks_last (take (n - 1) xs) (get_or xs (n - 1) d) in
     omega arith
 
--- the last of a lent list
-pub lent_last : (xs ws : List Segment) (n : Segment) → ws ≡ xs → 0 < length ws → n ≡ get_or ws (length ws - 1) n → (0 < length xs) × (n ≡ get_or xs (length xs - 1) n)
-lent_last xs ws n e l h = subst (λ (ys : List Segment). (0 < length ys) × (n ≡ get_or ys (length ys - 1) n)) e (l, h)
+-- a run put into an array after its first n segments: joined to the last, or at the next place
+pub put_same : (xs : List Segment) (n : ℕ) (s d : Segment) → 0 < n → n ≤ length xs → (s.ticks ≡ 0 → ⊥) → (get_or xs (n - 1) d).step ≡ s.step
+    → take n (set xs (n - 1) (segment (get_or xs (n - 1) d).step ((get_or xs (n - 1) d).ticks + s.ticks))) ≡ added (take n xs) s
+put_same xs n s d l k e f =
+    let q : n - 1 + 1 ≡ n = omega arith in
+    let a = take_more xs (n - 1) d (omega arith) in
+    let b = take_more_set xs (n - 1) (segment (get_or xs (n - 1) d).step ((get_or xs (n - 1) d).ticks + s.ticks)) (omega arith) in
+    subst (λ (m : ℕ). take m (set xs (n - 1) (segment (get_or xs (n - 1) d).step ((get_or xs (n - 1) d).ticks + s.ticks))) ≡ added (take m xs) s) q
+    (b ∙ (sym (added_same (take (n - 1) xs) (get_or xs (n - 1) d) s e f) ∙ ap (λ (y : List Segment). added y s) (sym a)))
 
--- what was lent is written back whole
-back : (xs ws : List Segment) → length ws ≡ length xs → refill (length xs) xs ws ≡ ws
-back xs ws e = subst (λ (n : ℕ). take n (ws ++ drop (length ws) xs) ≡ ws) e (take-append_seam ws (drop (length ws) xs))
+pub put_other : (xs : List Segment) (n : ℕ) (s d : Segment) → 0 < n → n < length xs → (s.ticks ≡ 0 → ⊥) → ((get_or xs (n - 1) d).step ≡ s.step → ⊥)
+    → take (n + 1) (set xs n s) ≡ added (take n xs) s
+put_other xs n s d l k e f =
+    let q : n - 1 + 1 ≡ n = omega arith in
+    let a = take_more xs (n - 1) d (omega arith) in
+    let b : take n xs ≡ take (n - 1) xs ++ (get_or xs (n - 1) d ∷ []) = subst (λ (m : ℕ). take m xs ≡ take (n - 1) xs ++ (get_or xs (n - 1) d ∷ [])) q a in
+    take_more_set xs n s k
+    ∙ (ap (λ (y : List Segment). y ++ (s ∷ [])) b
+    ∙ (sym (added_other (take (n - 1) xs) (get_or xs (n - 1) d) s e f) ∙ ap (λ (y : List Segment). added y s) (sym b)))
 
-back_set : (xs ws : List Segment) (s : Segment) → ws ≡ xs → refill (length xs) xs (set ws (length ws - 1) s) ≡ set xs (length xs - 1) s
-back_set xs ws s e =
-    ap (λ (ys : List Segment). refill (length xs) xs (set ys (length ys - 1) s)) e
-    ∙ back xs (set xs (length xs - 1) s) (length-set xs (length xs - 1) s)
-
--- a run put into a lent list: joined to the last segment, or set after a last one at another step
-pub put_same : (xs ws : List Segment) (n s : Segment) → ws ≡ xs → 0 < length xs → n ≡ get_or xs (length xs - 1) n → (s.ticks ≡ 0 → ⊥) → n.step ≡ s.step
-    → refill (length xs) xs (set ws (length ws - 1) (segment n.step (n.ticks + s.ticks))) ≡ added xs s
-put_same xs ws n s w l h e f =
-    back_set xs ws (segment n.step (n.ticks + s.ticks)) w
-    ∙ (set_end xs (segment n.step (n.ticks + s.ticks)) l
-    ∙ (sym (added_same (take (length xs - 1) xs) n s e f)
-    ∙ (ap (λ (x : Segment). added (take (length xs - 1) xs ++ (x ∷ [])) s) h ∙ ap (λ (ys : List Segment). added ys s) (sym (ends xs n l)))))
-
-pub put_other : (xs : List Segment) (n s : Segment) → 0 < length xs → n ≡ get_or xs (length xs - 1) n → (s.ticks ≡ 0 → ⊥) → (n.step ≡ s.step → ⊥) → xs ++ (s ∷ []) ≡ added xs s
-put_other xs n s l h e f =
-    ap (λ (ys : List Segment). ys ++ (s ∷ [])) (ends xs n l)
-    ∙ (ap (λ (x : Segment). (take (length xs - 1) xs ++ (x ∷ [])) ++ (s ∷ [])) (sym h)
-    ∙ (sym (added_other (take (length xs - 1) xs) n s e f)
-    ∙ (ap (λ (x : Segment). added (take (length xs - 1) xs ++ (x ∷ [])) s) h ∙ ap (λ (ys : List Segment). added ys s) (sym (ends xs n l)))))
-
--- a segment written back as it was changes nothing
-pub put_back : (xs ws : List Segment) (n : Segment) → ws ≡ xs → n ≡ get_or xs (length xs - 1) n → refill (length xs) xs (set ws (length ws - 1) n) ≡ xs
-put_back xs ws n w h = back_set xs ws n w ∙ (ap (λ (x : Segment). set xs (length xs - 1) x) h ∙ set-get_or xs (length xs - 1) n)
-
--- a run put into a lent list without segments
-pub put_first : (xs ws : List Segment) (s : Segment) → ws ≡ xs → length ws ≤ 0 → (s.ticks ≡ 0 → ⊥) → refill (length xs) xs ws ++ (s ∷ []) ≡ added xs s
-put_first xs ws s w l e =
-    ap (λ (ys : List Segment). ys ++ (s ∷ [])) (back xs ws (ap (λ (ys : List Segment). length ys) w) ∙ w) ∙ first xs (subst (λ (ys : List Segment). length ys ≤ 0) w l)
-  where
-    first : (ys : List Segment) → length ys ≤ 0 → ys ++ (s ∷ []) ≡ added ys s
-    first [] m = sym (added_first s e)
-    first (y ∷ ys) m = absurd (omega arith)
+pub put_first : (xs : List Segment) (n : ℕ) (s : Segment) → n ≡ 0 → n < length xs → (s.ticks ≡ 0 → ⊥) → take (n + 1) (set xs n s) ≡ added (take n xs) s
+put_first xs n s z k e =
+    subst (λ (m : ℕ). m < length xs → take (m + 1) (set xs m s) ≡ added (take m xs) s) (sym z) (λ l. take_more_set xs 0 s l ∙ sym (added_first s e)) k

@@ -11,7 +11,7 @@ use Rattle.model.specs.declared.step.Step.{Step}
 use Rattle.theory.proofs.Cuts.{cut_in_span}
 use Rattle.theory.proofs.Runs.{energy_joined}
 use Rattle.theory.proofs.Drawn.{Drawable, drawn}
-use Rattle.draw.specs.Gathered.{gathered, Within}
+use Rattle.draw.specs.Gathered.{gathered, listed, Within}
 use Rattle.draw.specs.Lanes.{piece_no, runs_of, Bounded, IsLane}
 use Rattle.draw.specs.declared.drawing.Drawing.{Drawing}
 use Rattle.draw.specs.declared.lane.Lane.{Lane}
@@ -23,10 +23,10 @@ use Rattle.draw.proofs.Riding.{Stands, Rides, Ready, bounded_at, goes_on, rides_
 pub record Going (steps : List Step) (jobs : List Job) (c : List Point) (i : ℕ) (l : Lane) (d : Drawing) : Type 0 where
   pub lane : IsLane steps c l.number l
   pub stands : Stands c l.number (get_or (cuts jobs) i 0)
-  pub plan : gathered d.segments.items (stretches steps c (drop i (cuts jobs))) ≡ drawn steps jobs c
+  pub plan : gathered (listed d) (stretches steps c (drop i (cuts jobs))) ≡ drawn steps jobs c
   pub spent : d.energy + energy steps (stretches steps c (drop i (cuts jobs))) ≡ energy steps (drawn steps jobs c)
   pub within : Within (get_or (cuts jobs) i 0) d
-  pub few : length d.segments.items ≤ 2 * i
+  pub few : d.count ≤ 2 * i
 
 energy_more : (steps : List Step) (xs ys : List Segment) → energy steps (xs ++ ys) ≡ energy steps xs + energy steps ys
 unfolding energy sum_of
@@ -40,9 +40,9 @@ module _ {steps : List Step} {jobs : List Job} {c : List Point} (d : Drawable st
   pub bounded_first : 0 < length jobs → Bounded (piece_no c 0)
   bounded_first l = bounded_at steps jobs c d short light (span_positive jobs d.ordered l) 0 (corners_there l)
 
-  pub going_start : (l : Lane) (r : Drawing) → 0 < length jobs → IsLane steps c 0 l → r.segments.items ≡ [] → r.energy ≡ 0 → Going steps jobs c 0 l r
+  pub going_start : (l : Lane) (r : Drawing) → 0 < length jobs → IsLane steps c 0 l → listed r ≡ [] → r.count ≡ 0 → r.energy ≡ 0 → Going steps jobs c 0 l r
   unfolding drawn ticks_of sum_of
-  going_start l r some e none free =
+  going_start l r some e none bare free =
       let z = (cuts_begin jobs).0 in
       record {
         lane = subst (λ (n : ℕ). IsLane steps c n l) (sym e.number) e;
@@ -50,7 +50,7 @@ module _ {steps : List Step} {jobs : List Job} {c : List Point} (d : Drawable st
         plan = ap (λ (x : List Segment). gathered x (stretches steps c (cuts jobs))) none ∙ gathered_all (stretches steps c (cuts jobs));
         spent = let a = energy_joined steps (stretches steps c (cuts jobs)) in omega arith;
         within = record { ticks = let a = ap ticks_of none in omega arith; spent = omega arith };
-        few = let a = ap (λ (x : List Segment). length x) none in omega arith;
+        few = omega (arith, bare);
       }
 
   module _ {i : ℕ} {l : Lane} {r : Drawing} (g : Going steps jobs c i l r) {s t : ℕ} (read : Read jobs i s t) where
@@ -77,7 +77,7 @@ module _ {steps : List Step} {jobs : List Job} {c : List Point} (d : Drawable st
       can_draw =
           (near.onward, ready steps jobs c d short light m s t rides.0 rides.1 near, subst (λ (x : ℕ). Within x r) (sym read.here) g.within)
 
-      pub going_next : (q : Drawing) → q.segments.items ≡ gathered r.segments.items (runs_of m s t) → length q.segments.items ≤ length r.segments.items + 2
+      pub going_next : (q : Drawing) → listed q ≡ gathered (listed r) (runs_of m s t) → q.count ≤ r.count + 2
           → q.energy ≡ r.energy + energy steps (runs_of m s t) → Within t q → Going steps jobs c (suc i) m q
       going_next q er ec ee w =
           let runs : runs_of m s t ≡ stretch steps (piece_at c (get_or (cuts jobs) i 0)) (get_or (cuts jobs) i 0) (get_or (cuts jobs) (suc i) 0) =
@@ -93,21 +93,21 @@ module _ {steps : List Step} {jobs : List Job} {c : List Point} (d : Drawable st
             stands = subst (Stands c m.number) read.after (stands_on steps jobs c d short light m s t rides.0 rides.1 near);
             plan =
                 ap (λ (x : List Segment). gathered x (stretches steps c (drop (suc i) (cuts jobs)))) er
-                ∙ (sym (gathered_more r.segments.items (runs_of m s t) (stretches steps c (drop (suc i) (cuts jobs))))
-                ∙ (ap (gathered r.segments.items) (sym parts) ∙ g.plan));
+                ∙ (sym (gathered_more (listed r) (runs_of m s t) (stretches steps c (drop (suc i) (cuts jobs))))
+                ∙ (ap (gathered (listed r)) (sym parts) ∙ g.plan));
             spent = omega arith;
             within = subst (λ (x : ℕ). Within x q) read.after w;
             few = omega arith;
           }
 
   pub going_end : {i : ℕ} {l : Lane} {r : Drawing} → Going steps jobs c i l r → length (cuts jobs) ≤ suc i
-      → (r.segments.items ≡ drawn steps jobs c) × (r.energy ≡ energy steps (drawn steps jobs c))
+      → (listed r ≡ drawn steps jobs c) × (r.energy ≡ energy steps (drawn steps jobs c))
   unfolding gathered energy sum_of
   going_end {i} {l} {r} g m =
       let e = stretches_end steps c (cuts jobs) i m in
       let a = ap (energy steps) e in
       let b = g.spent in
-      (sym (ap (gathered r.segments.items) e) ∙ g.plan, omega arith)
+      (sym (ap (gathered (listed r)) e) ∙ g.plan, omega arith)
 
 -- without jobs there is nothing to draw
 pub nothing_drawn : (steps : List Step) (jobs : List Job) (c : List Point) → length jobs ≡ 0 → drawn steps jobs c ≡ []

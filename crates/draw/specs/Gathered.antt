@@ -1,5 +1,5 @@
 -- A plan gathered run by run from the left.
-use Rattle.std.specs.Prelude.{ℕ, ◌+◌, ◌*◌, ◌≤◌, cond, List, [], ◌∷◌, ◌==◌}
+use Rattle.std.specs.Prelude.{ℕ, ◌+◌, ◌*◌, ◌≤◌, cond, List, [], ◌∷◌, take, ◌==◌}
 use Rattle.model.specs.Plan.{segment, ticks_of}
 use Rattle.model.specs.declared.segment.Segment.{Segment}
 use Rattle.draw.specs.declared.drawing.Drawing.{Drawing}
@@ -17,7 +17,11 @@ unfoldable pub gathered : List Segment → List Segment → List Segment
 gathered ns [] = ns
 gathered ns (s ∷ ss) = gathered (added ns s) ss
 
+-- the segments of a drawing
+abbrev pub listed : Drawing → List Segment
+listed d = take d.count d.segments
+
 -- what has been drawn by time t is within its limits
 pub record Within (t : ℕ) (d : Drawing) : Type 0 where
-  pub ticks : ticks_of d.segments.items ≤ 5040 * t
+  pub ticks : ticks_of (listed d) ≤ 5040 * t
   pub spent : d.energy ≤ 5040000000 * t

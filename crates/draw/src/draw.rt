@@ -1,5 +1,6 @@
 // Drawing the plan from the corners of the path.
 ghost use Rattle.std.specs.Prelude.{◌≡◌, ◌≤◌, length};
+ghost use Rattle.draw.specs.Gathered.{listed};
 ghost use Rattle.model.specs.Jobs.{span, total};
 ghost use Rattle.model.specs.Plan.{energy};
 ghost use Rattle.theory.proofs.Drawn.{Drawable, drawn};
@@ -7,29 +8,31 @@ ghost use Rattle.theory.specs.Survey.{survey};
 
 use crate::drawing::Drawing;
 use crate::lane::Lane;
-use arrayvec::ArrayVec;
 use model::cut::Cut;
 use model::job::Job;
 use model::point::Point;
 use processor::processor::Processor;
 
-// Draws the plan from the cuts and the corners of the path of these jobs.
-pub fn draw<P: Processor>(processor: &P, jobs: &[Job], cuts: &[Cut], corners: &[Point]) -> Drawing
+// Draws the plan anew, in a lent drawing, from the cuts and the corners of the path of these jobs.
+pub fn draw<P: Processor>(
+    processor: &P,
+    jobs: &[Job],
+    cuts: &[Cut],
+    corners: &[Point],
+    drawing: &mut Drawing,
+)
     requires cuts { cuts.now ≡ survey jobs.now }
     requires drawable { Drawable (P.Processor.steps processor.now) jobs.now corners.now }
     requires short { span jobs.now ≤ 200000 }
     requires light { total jobs.now ≤ 256000000 }
     requires few { length cuts.now ≤ 513 }
-    ensures plan { result.segments.items ≡ drawn (P.Processor.steps processor.now) jobs.now corners.now }
-    ensures few { length result.segments.items ≤ 1024 }
-    ensures spent { result.energy ≡ energy (P.Processor.steps processor.now) (drawn (P.Processor.steps processor.now) jobs.now corners.now) }
+    ensures plan { listed drawing.new ≡ drawn (P.Processor.steps processor.now) jobs.now corners.now }
+    ensures few { drawing.new.count ≤ 1024 }
+    ensures spent { drawing.new.energy ≡ energy (P.Processor.steps processor.now) (drawn (P.Processor.steps processor.now) jobs.now corners.now) }
 {
-    let mut drawing = Drawing {
-        segments: ArrayVec::new(),
-        energy: 0,
-    };
+    drawing.clear();
     if jobs.is_empty() {
-        return drawing;
+        return;
     }
     let mut lane = Lane::at(processor, corners, 0);
     for pair in cuts.windows(2) {
@@ -37,5 +40,4 @@ pub fn draw<P: Processor>(processor: &P, jobs: &[Job], cuts: &[Cut], corners: &[
         lane.advance(processor, corners, s);
         drawing.stretch(processor, &lane, s, t);
     }
-    drawing
 }

@@ -4,3 +4,4 @@
 pub mod draw;
 pub mod drawing;
 mod lane;
+mod put;

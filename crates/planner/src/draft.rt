@@ -2,7 +2,7 @@
 use draw::drawing::Drawing;
 
 // A draft: the drawing of a plan, its segments and their energy.
-#[derive(Clone, PartialEq, Eq, Debug, Drop)]
+#[derive(Clone, Copy, PartialEq, Eq, Debug)]
 pub struct Draft {
     pub(crate) drawing: Drawing,
 }

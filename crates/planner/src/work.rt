@@ -17,6 +17,7 @@ use queue::queue::Queue;
 use refusal::refusal::Refusal;
 use survey::merge::survey;
 use sweep::sweep::sweep;
+use sweep::way::Way;
 use want::search::want_of_speed;
 
 impl Draft {
@@ -27,7 +28,8 @@ impl Draft {
     {
         Draft {
             drawing: Drawing {
-                segments: ArrayVec::new(),
+                segments: [Segment { step: 0, ticks: 0 }; 1024],
+                count: 0,
                 energy: 0,
             },
         }
@@ -43,9 +45,17 @@ impl Draft {
         if let Some(job) = want_of_speed(processor, standing) {
             return Err(Refusal::Want { job: job + 1 });
         }
-        let cuts = survey(standing);
-        let corners = sweep(&cuts);
-        self.drawing = draw(processor, standing.jobs, &cuts, corners.points());
+        let mut cuts = ArrayVec::new();
+        survey(standing, &mut cuts);
+        let mut way = Way::new();
+        sweep(&cuts, &mut way);
+        draw(
+            processor,
+            standing.jobs,
+            &cuts,
+            way.corners.points(),
+            &mut self.drawing,
+        );
         Ok(())
     }
 
@@ -53,7 +63,8 @@ impl Draft {
     pub fn segments(&self) -> &[Segment]
         ensures { result.now ≡ segments_of self.now }
     {
-        &self.drawing.segments
+        let count = self.drawing.count;
+        &self.drawing.segments[..count]
     }
 
     // The energy of the plan.

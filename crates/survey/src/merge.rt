@@ -70,20 +70,20 @@ fn cut_at(standing: Standing<'_>, before: Fronts, after: Fronts, t: u64) -> Cut
     }
 }
 
-// All cuts of standing jobs, in order.
-pub fn survey(standing: Standing<'_>) -> ArrayVec<Cut, 513>
-    ensures cuts { result.items ≡ survey standing.entry.jobs.now }
-    ensures most { array_vec_len result ≤ 513 }
-    ensures each { array_vec_len result ≤ 2 * length standing.entry.jobs.now + 1 }
+// All cuts of standing jobs, in order, in a lent table, in place of what stands there.
+pub fn survey(standing: Standing<'_>, cuts: &mut ArrayVec<Cut, 513>)
+    ensures cuts { cuts.new.items ≡ survey standing.entry.jobs.now }
+    ensures most { array_vec_len cuts.new ≤ 513 }
+    ensures each { array_vec_len cuts.new ≤ 2 * length standing.entry.jobs.now + 1 }
 {
-    let mut cuts = ArrayVec::new();
+    cuts.clear();
     let mut before = Fronts::default();
     let mut t = 0;
     loop {
         let after = before.advance(standing, t);
         cuts.push(cut_at(standing, before, after, t));
         if after.due.count == standing.jobs.len() {
-            return cuts;
+            return;
         }
         t = after.next_time(standing);
         before = after;

@@ -32,6 +32,15 @@ impl Chain {
         }
     }
 
+    // Takes all points off.
+    pub(crate) fn clear(&mut self)
+        ensures points { view self.new ≡ [] }
+        ensures places { (self.new.start ≡ 0) × (end self.new ≡ 0) }
+    {
+        self.points.clear();
+        self.start = 0;
+    }
+
     // The points in order.
     pub fn points(&self) -> &[Point]
         ensures { result.now ≡ view self.now }

@@ -6,4 +6,4 @@ mod pass;
 pub mod sweep;
 pub mod tighten;
 pub mod wall;
-mod way;
+pub mod way;

@@ -59,27 +59,24 @@ fn cross(cut: &Cut, upper: &mut Chain, lower: &mut Chain, way: &mut Way)
     reach(&Ceiling, cut.rises.then_some(above), upper, lower, way);
 }
 
-// The corners of the path that leads between the walls of these cuts.
-pub fn sweep(cuts: &[Cut]) -> Chain
+// Leads a lent way anew, along the corners of the path between the walls of these cuts.
+pub fn sweep(cuts: &[Cut], way: &mut Way)
     requires few { length cuts.now ≤ 513 }
     requires rising { Rising cuts.now }
-    ensures { view result ≡ swept cuts.now }
+    ensures { view way.new.corners ≡ swept cuts.now }
 {
-    let mut way = Way {
-        apex: Point::default(),
-        corners: Chain::new(),
-    };
+    way.apex = Point::default();
+    way.corners.clear();
     let [_, .., last] = cuts else {
-        return way.corners;
+        return;
     };
     let mut upper = Chain::new();
     let mut lower = Chain::new();
     for cut in &cuts[1..] {
-        cross(cut, &mut upper, &mut lower, &mut way);
+        cross(cut, &mut upper, &mut lower, way);
     }
     way.corners.put(Point {
         time: last.time,
         height: last.upper,
     });
-    way.corners
 }

@@ -1,4 +1,4 @@
-use Rattle.std.proofs.Common.{◌<◌, ℕ, List, length, sym, ap, ◌∙◌, subst, refl, arith, rules}
+use Rattle.std.proofs.Common.{◌<◌, ℕ, List, length, sym, ap, ◌∙◌, subst, arith, rules}
 use Rattle.model.specs.Sums.{sum_of}
 use Rattle.model.specs.Plan.{energy}
 use Rattle.model.specs.declared.cut.Cut.{Cut}
@@ -12,9 +12,9 @@ unfolding energy sum_of
 returns-then-is_empty g c =
     let e = nothing_drawn (g.P.Processor.steps c.args.processor.now) c.args.jobs.now c.args.corners.now (search rules) in
     record {
-      plan = c.new.ensures ∙ sym e;
+      plan = c.clear.ensures.made ∙ sym e;
       few = search rules;
-      spent = sym (ap (energy (g.P.Processor.steps c.args.processor.now)) e);
+      spent = c.clear.ensures.figures.1 ∙ sym (ap (energy (g.P.Processor.steps c.args.processor.now)) e);
     }
 
 pub at-lane-requires : goal.at-lane-requires
@@ -34,8 +34,8 @@ loop-pair-init g c =
     record {
       left = left;
       going =
-          subst (λ (k : ℕ). Going (g.P.Processor.steps c.args.processor.now) c.args.jobs.now c.args.corners.now k c.at-lane.result (record { segments = c.new.result; energy = 0 })) (sym z)
-          (going_start c.requires.drawable c.requires.short c.requires.light c.at-lane.result (record { segments = c.new.result; energy = 0 }) (search rules) c.at-lane.ensures c.new.ensures refl);
+          subst (λ (k : ℕ). Going (g.P.Processor.steps c.args.processor.now) c.args.jobs.now c.args.corners.now k c.at-lane.result c.clear.new.self) (sym z)
+          (going_start c.requires.drawable c.requires.short c.requires.light c.at-lane.result c.clear.new.self (search rules) c.at-lane.ensures c.clear.ensures.made c.clear.ensures.figures.0 c.clear.ensures.figures.1);
     }
 
 pub advance-requires : goal.advance-requires

@@ -16,8 +16,8 @@ pub returns : goal.returns
 returns c =
     let q = c.args.queue.now in
     let st = c.standing.result in
-    let e : view c.sweep.result ≡ sweep (jobs_of q) =
-    corners_are st.jobs.now c.deref.result.now (view c.sweep.result) (ordered_from st.jobs.now st.order) (c.deref.ensures.0 ∙ c.survey.ensures.cuts) c.sweep.ensures
+    let e : view c.sweep.new.way.corners ≡ sweep (jobs_of q) =
+    corners_are st.jobs.now c.deref.result.now (view c.sweep.new.way.corners) (ordered_from st.jobs.now st.order) (c.deref.ensures.0 ∙ c.survey.ensures.cuts) c.sweep.ensures
     ∙ ap sweep c.standing.ensures
     in
     record { corners = e; law = subst (λ (w : List Point). keeps (jobs_of q) w ≡ true) (sym e) (sweep_keeps (jobs_of q) (ordered_from (jobs_of q) q.order)) }

@@ -5,7 +5,7 @@ use Rattle.survey.proofs.Merged.{at_start, at_within, at_next, at_end}
 use Rattle.survey.proofs.merge.survey.Goals as goal
 
 pub loop-after-init : goal.loop-after-init
-loop-after-init c = at_start c.args.standing.jobs.now c.new-cuts.result.items c.default-before.result c.new-cuts.ensures c.default-before.ensures
+loop-after-init c = at_start c.args.standing.jobs.now c.clear.new.self.items c.default-before.result c.clear.ensures c.default-before.ensures
 
 pub cut_at-requires-clause-within : goal.cut_at-requires-clause-within
 cut_at-requires-clause-within c =

@@ -7,16 +7,16 @@ use Rattle.sweep.proofs.Going.{going_start, going_more, next_later, rest_at, res
 use Rattle.sweep.proofs.sweep.sweep.Goals as goal
 
 pub returns-in_default : goal.returns-in_default
-returns-in_default c = c.new.ensures.points ∙ swept_few c.args.cuts.now (omega arith)
+returns-in_default c = c.clear.ensures.points ∙ swept_few c.args.cuts.now (omega arith)
 
 pub loop-cut-init : goal.loop-cut-init
 loop-cut-init c = record {
   going =
-      going_start c.args.cuts.now (view c.new.result) c.default.result (view c.new-upper.result) (view c.new-lower.result) c.in-len2-up.len_at_least
-      c.new.ensures.points c.default.ensures c.new-upper.ensures.points c.new-lower.ensures.points;
+      going_start c.args.cuts.now (view c.clear.new.self) c.default-way.result (view c.new-upper.result) (view c.new-lower.result) c.in-len2-up.len_at_least
+      c.clear.ensures.points c.default-way.ensures c.new-upper.ensures.points c.new-lower.ensures.points;
   above = omega (arith, c.new-upper.ensures.places);
   below = omega (arith, c.new-lower.ensures.places);
-  tally = omega (arith, c.new.ensures.places, c.new-upper.ensures.places, c.new-lower.ensures.places);
+  tally = omega (arith, c.clear.ensures.places, c.new-upper.ensures.places, c.new-lower.ensures.places);
 }
 
 pub cross-requires : goal.cross-requires

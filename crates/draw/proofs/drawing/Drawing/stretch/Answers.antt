@@ -1,5 +1,6 @@
 use Rattle.std.proofs.Common.{◌*◌, arith}
 use Rattle.model.specs.Plan.{ticks_between}
+use Rattle.draw.specs.Gathered.{listed}
 use Rattle.draw.proofs.Stretched.{drew}
 use Rattle.draw.proofs.drawing.Drawing.stretch.Goals as goal
 
@@ -20,7 +21,7 @@ unfolding ticks_between
 returns g c =
     let d = drew (g.P.Processor.steps c.args.processor.now) (g.met.P.Processor.lawful c.args.processor.now) c.args.lane.now c.args.s c.args.t
     (5040 * c.from-ticks.result) c.fast-fast.result
-    (c.args.self.now.segments.items) (c.put_both.new.self.segments.items) c.args.self.now.energy c.put_both.new.self.energy
+    (listed c.args.self.now) (listed c.put_both.new.self) c.args.self.now.energy c.put_both.new.self.energy
     (omega (arith, c.from-ticks.ensures)) c.fast-fast.ensures c.requires.fits c.put_both.ensures.runs c.put_both.ensures.spent in
     record {
       runs = d.runs;

@@ -27,22 +27,22 @@ returns-in-Some g c =
       worth = worthy (g.P.Processor.steps p) _ (g.met.P.Processor.lawful p) (ordered_from _ c.args.queue.now.order);
     }
 
-pub sweep-corners-requires-clause-rising : goal.sweep-corners-requires-clause-rising
-sweep-corners-requires-clause-rising g c = cuts_rising c.standing-standing.result.jobs.now _ (c.deref.ensures.0 ∙ c.survey-cuts.ensures.cuts)
+pub sweep-requires-clause-rising : goal.sweep-requires-clause-rising
+sweep-requires-clause-rising g c = cuts_rising c.standing-standing.result.jobs.now _ (c.deref.ensures.0 ∙ c.survey.ensures.cuts)
 
-pub draw-self-requires-clause-drawable : goal.draw-self-requires-clause-drawable
-draw-self-requires-clause-drawable g c =
+pub draw-requires-clause-drawable : goal.draw-requires-clause-drawable
+draw-requires-clause-drawable g c =
     let p = c.args.processor.now in
     let st = c.standing-standing.result in
     let o = ordered_from st.jobs.now st.order in
     corners_drawable (g.P.Processor.steps p) st.jobs.now c.points.result.now (g.met.P.Processor.lawful p) o (none_found (g.P.Processor.steps p) st.jobs.now c.in_default.ensures)
-    (corners_are st.jobs.now c.deref.result.now c.points.result.now o (c.deref.ensures.0 ∙ c.survey-cuts.ensures.cuts) (c.points.ensures ∙ c.sweep-corners.ensures))
+    (corners_are st.jobs.now c.deref.result.now c.points.result.now o (c.deref.ensures.0 ∙ c.survey.ensures.cuts) (c.points.ensures ∙ c.sweep.ensures))
 
-pub draw-self-requires-clause-short : goal.draw-self-requires-clause-short
-draw-self-requires-clause-short g c = span_limit _ c.standing-standing.result.order
+pub draw-requires-clause-short : goal.draw-requires-clause-short
+draw-requires-clause-short g c = span_limit _ c.standing-standing.result.order
 
-pub draw-self-requires-clause-light : goal.draw-self-requires-clause-light
-draw-self-requires-clause-light g c = total_limit _ c.standing-standing.result.order c.standing-standing.result.few
+pub draw-requires-clause-light : goal.draw-requires-clause-light
+draw-requires-clause-light g c = total_limit _ c.standing-standing.result.order c.standing-standing.result.few
 
 pub returns : goal.returns
 returns g c =
@@ -50,13 +50,13 @@ returns g c =
     let st = c.standing-standing.result in
     let o = ordered_from st.jobs.now st.order in
     let w = none_found (g.P.Processor.steps p) st.jobs.now c.in_default.ensures in
-    let k = corners_are st.jobs.now c.deref.result.now c.points.result.now o (c.deref.ensures.0 ∙ c.survey-cuts.ensures.cuts) (c.points.ensures ∙ c.sweep-corners.ensures) in
+    let k = corners_are st.jobs.now c.deref.result.now c.points.result.now o (c.deref.ensures.0 ∙ c.survey.ensures.cuts) (c.points.ensures ∙ c.sweep.ensures) in
     record {
       answer = none_accepted (g.P.Processor.steps p) st.jobs.now w ∙ ap (λ (xs : List Job). first_of (want_line (g.P.Processor.steps p) xs ∷ [])) c.standing-standing.ensures;
       made = (
-        drawn_plan (g.P.Processor.steps p) st.jobs.now c.points.result.now _ (g.met.P.Processor.lawful p) o k c.draw-self.ensures.plan
+        drawn_plan (g.P.Processor.steps p) st.jobs.now c.points.result.now _ (g.met.P.Processor.lawful p) o k c.draw.ensures.plan
             ∙ ap (λ (xs : List Job). plan (g.P.Processor.steps p) xs) c.standing-standing.ensures,
-        drawn_cost (g.P.Processor.steps p) st.jobs.now c.points.result.now _ (g.met.P.Processor.lawful p) o k c.draw-self.ensures.spent
+        drawn_cost (g.P.Processor.steps p) st.jobs.now c.points.result.now _ (g.met.P.Processor.lawful p) o k c.draw.ensures.spent
             ∙ ap (λ (xs : List Job). cost (g.P.Processor.steps p) xs) c.standing-standing.ensures,
       );
       worth = worthy (g.P.Processor.steps p) _ (g.met.P.Processor.lawful p) (ordered_from _ c.args.queue.now.order);
