@@ -9,7 +9,7 @@ use Rattle.text.proofs.Reading.{begins_once}
 use Rattle.grammar.specs.Pieces.{space}
 use Rattle.grammar.specs.Rows.{fields, Small, Fields}
 
-fields_push : (xs : List ℕ) (n : ℕ) → fields (xs ++ (n ∷ [])) ≡ fields xs ++ (space ∷ decimal n)
+pub fields_push : (xs : List ℕ) (n : ℕ) → fields (xs ++ (n ∷ [])) ≡ fields xs ++ (space ∷ decimal n)
 unfolding fields
 fields_push [] n = ap (λ (ys : List ℕ). space ∷ ys) (append-nil (decimal n))
 fields_push (x ∷ xs) n =
@@ -25,7 +25,7 @@ small_at (m ∷ ms) zero s l = s.0
 small_at (m ∷ ms) (suc k) s l = small_at ms k s.1 (omega arith)
 
 -- fields do not begin with a digit
-fields_stop : (ns : List ℕ) → Stops (fields ns)
+pub fields_stop : (ns : List ℕ) → Stops (fields ns)
 unfolding fields
 fields_stop [] = tt
 fields_stop (n ∷ ns) = λ i. omega (arith, i.0)

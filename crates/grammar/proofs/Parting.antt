@@ -120,6 +120,18 @@ line_split text line rest n e f g =
     let k = take_all (length rest - 1) (drop 1 rest) (omega arith) ∙ ap (λ (xs : List ℕ). drop 1 xs) g ∙ drop-drop 1 n text in
     h.1 ∙ ap (λ (xs : List ℕ). xs ∷ lines (drop (n + 1) text)) (sym f) ∙ ap (λ (xs : List ℕ). line ∷ lines xs) (sym k)
 
+-- the same, where the line's end is known as that of the line at the start
+pub line_split_at : (text line rest : List ℕ) (n : ℕ) → LineAt text 0 (Some n) → line ≡ take n text → rest ≡ drop n text
+    → lines text ≡ line ∷ lines (take (length rest - 1) (drop 1 rest))
+line_split_at text line rest n h f g =
+    let d = length-drop 1 rest in
+    let k = take_all (length rest - 1) (drop 1 rest) (omega arith) ∙ ap (λ (xs : List ℕ). drop 1 xs) g ∙ drop-drop 1 n text in
+    let z : n - 0 ≡ n = omega arith in
+    h.2
+    ∙ ap (λ (i : ℕ). take i text ∷ lines (drop (n + 1) text)) z
+    ∙ ap (λ (xs : List ℕ). xs ∷ lines (drop (n + 1) text)) (sym f)
+    ∙ ap (λ (xs : List ℕ). line ∷ lines xs) (sym k)
+
 -- the line that begins at a place
 pub line_found : (bytes : List ℕ) (start : ℕ) (rest : List ℕ) (n : ℕ) → rest ≡ slice_range bytes start (length bytes) → Some n ≡ position (λ (b : ℕ). eqb b line_feed) rest → LineAt bytes start (Some (start + n))
 line_found bytes start rest n r e =

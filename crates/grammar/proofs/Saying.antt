@@ -117,7 +117,7 @@ pub row_by : (line text : List ℕ) (c d : ℕ) (o : Option Row) → line ≡ c 
 row_by line text c d o e l x = found line o (subst (λ (xs : List ℕ). Exactly xs o) (sym (e ∙ ap (λ (b : ℕ). b ∷ text) l)) x)
 
 -- a letter that no row has
-lettered : (r : Row) → ((letter_of r ≡ 84) ⊎ (letter_of r ≡ 74)) ⊎ (letter_of r ≡ 80)
+pub lettered : (r : Row) → ((letter_of r ≡ 84) ⊎ (letter_of r ≡ 74)) ⊎ (letter_of r ≡ 80)
 lettered (Rung v) = inl (inl refl)
 lettered (Task j) = inl (inr refl)
 lettered Draw = inr refl

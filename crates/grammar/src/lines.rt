@@ -15,7 +15,7 @@ pub fn split_line(text: &[u8]) -> Option<(&[u8], &[u8])>
     ensures lines { MatchOption result (lines text.now ≡ text.now ∷ []) (λ r. lines text.now ≡ r.0.now ∷ lines r.1.now) }
     ensures shorter { MatchOption result ⊤ (λ r. length r.1.now < length text.now) }
 {
-    let (line, rest) = text.split_at(line_length(text)?);
+    let (line, rest) = text.split_at(line_end(text, 0)?);
     Some((line, &rest[1..]))
 }
 

@@ -1,9 +1,11 @@
 -- Reading a number: the digits that a text begins with, and what they are worth.
-use Rattle.std.proofs.Common.{◌≡◌, ℕ, ◌+◌, ◌-◌, ◌*◌, ◌^◌, ◌<◌, ◌≤◌, Bool, true, false, cond, leb, List, [], ◌∷◌, ◌++◌, length, get_or, take, drop, decimal, sym, refl, ap, ◌∙◌, subst, inl, inr, one-add, arith, lit<, lit≤}
+use Rattle.std.proofs.Common.{◌≡◌, ℕ, zero, suc, ◌+◌, ◌-◌, ◌*◌, ◌^◌, ◌<◌, ◌≤◌, Bool, true, false, cond, leb, List, [], ◌∷◌, ◌++◌, length, get_or, take, drop, decimal, sym, refl, ap, ◌∙◌, subst, inl, inr, one-add, arith, lit<, lit≤}
 use native.Mathlib.Nat.{pow-le-pow_right}
 use Rattle.std.proofs.lemmas.Fmt.{decimal_is_IsNumeral, decimal-digits_value, length-decimal-le, first_decimal, decimal_nonempty, decimal_digit}
 use Rattle.std.proofs.lemmas.Int.Digits.{digits_value-lt, digits_value_more}
-use Rattle.std.proofs.lemmas.List.{take-append-drop}
+use Rattle.std.proofs.lemmas.List.{take-append-drop, length-take, length-take-le}
+use Rattle.std.proofs.lemmas.List.Sums.{prefix_len-le-length}
+use Rattle.std.proofs.lemmas.List.Folds.{length-prefix_len}
 use Rattle.std.proofs.lemmas.Str.Parse.{numerals_by_value, tells_digits, digit_from_value, digit_at, digits_value-take-le}
 use Rattle.std.proofs.lemmas.Str.{digit_value_digit}
 use Rattle.std.proofs.lemmas.Bool.{cases_eq, and_from, and_parts, le-leb, leb-true, both_ways}
@@ -32,6 +34,29 @@ stops_after (b ∷ bytes) = by (is_ascii_digit b) refl (stops_after bytes)
     by true e more = rw one-add more
     by false e more = λ i. both_ways (is_ascii_digit b) e (and_from (leb 48 b) (leb b 57) (le-leb 48 b i.0) (le-leb b 57 i.1))
 
+-- digits are counted in the first bytes alone: all of them where there are fewer than these, and else as many as these
+pub counted : (n : ℕ) (bytes : List ℕ) → prefix_len is_ascii_digit (take n bytes) < n → prefix_len is_ascii_digit (take n bytes) ≡ prefix_len is_ascii_digit bytes
+counted zero bytes l = absurd (omega (arith, l))
+counted (suc n) [] l = refl
+counted (suc n) (b ∷ bytes) l = by (is_ascii_digit b) l (counted n bytes)
+  where
+    by : (t : Bool) → cond t (1 + prefix_len is_ascii_digit (take n bytes)) 0 < suc n
+        → (prefix_len is_ascii_digit (take n bytes) < n → prefix_len is_ascii_digit (take n bytes) ≡ prefix_len is_ascii_digit bytes)
+        → cond t (1 + prefix_len is_ascii_digit (take n bytes)) 0 ≡ cond t (1 + prefix_len is_ascii_digit bytes) 0
+    by true m more = let e = more (omega (arith, m)) in omega (arith, e)
+    by false m more = refl
+
+pub counted_up : (n : ℕ) (bytes : List ℕ) → n ≤ prefix_len is_ascii_digit (take n bytes) → n ≤ prefix_len is_ascii_digit bytes
+counted_up zero bytes l = omega arith
+counted_up (suc n) [] l = absurd (omega (arith, l))
+counted_up (suc n) (b ∷ bytes) l = by (is_ascii_digit b) l (counted_up n bytes)
+  where
+    by : (t : Bool) → suc n ≤ cond t (1 + prefix_len is_ascii_digit (take n bytes)) 0
+        → (n ≤ prefix_len is_ascii_digit (take n bytes) → n ≤ prefix_len is_ascii_digit bytes)
+        → suc n ≤ cond t (1 + prefix_len is_ascii_digit bytes) 0
+    by true m more = let e = more (omega (arith, m)) in omega (arith, e)
+    by false m more = absurd (omega (arith, m))
+
 -- a text parted where its first digits end
 pub record Parted (bytes ds rest : List ℕ) : Type 0 where
   pub text : bytes ≡ ds ++ rest
@@ -48,6 +73,22 @@ parted bytes ds rest n e f g =
       stops = subst Stops (sym r) (stops_after bytes);
     }
 
+-- the same, where the digits were counted in the first bytes alone
+pub front_within : (bytes front : List ℕ) (n k : ℕ) → front ≡ take n bytes → k ≡ prefix_len is_ascii_digit front → k ≤ length bytes
+front_within bytes front n k e f =
+    let l = prefix_len-le-length is_ascii_digit front in
+    let m = length-take n bytes in
+    let g = ap (λ (xs : List ℕ). length xs) e in
+    omega arith
+
+pub front_parted : (bytes front ds rest : List ℕ) (k : ℕ) → front ≡ take 11 bytes → k ≡ prefix_len is_ascii_digit front → ds ≡ take k bytes → rest ≡ drop k bytes
+    → length ds ≤ 10 → Parted bytes ds rest
+front_parted bytes front ds rest k e f g h few =
+    let within = front_within bytes front 11 k e f in
+    let l = ap (λ (xs : List ℕ). length xs) g ∙ length-take-le k bytes within in
+    let s = f ∙ ap (λ (xs : List ℕ). prefix_len is_ascii_digit xs) e in
+    parted bytes ds rest k (s ∙ counted 11 bytes (omega (arith, s, l, few))) g h
+
 -- the value of at most ten digits
 pub small : (ds : List ℕ) → AllDigits 10 ds → length ds ≤ 10 → digits_value 10 ds < ten_digits
 small ds all few =
@@ -56,7 +97,7 @@ small ds all few =
     omega arith
 
 -- where digits end, bytes begin with digits in one way
-one_way : (xs ys r s : List ℕ) → AllDigits 10 xs → AllDigits 10 ys → Stops r → Stops s → xs ++ r ≡ ys ++ s → (xs ≡ ys) × (r ≡ s)
+pub one_way : (xs ys r s : List ℕ) → AllDigits 10 xs → AllDigits 10 ys → Stops r → Stops s → xs ++ r ≡ ys ++ s → (xs ≡ ys) × (r ≡ s)
 one_way [] [] r s d e p q h = (refl, h)
 one_way [] (y ∷ ys) r s d e p q h = absurd (subst Stops h p (digit_from_value y e.0))
 one_way (x ∷ xs) [] r s d e p q h = absurd (subst Stops (sym h) q (digit_from_value x d.0))
@@ -104,6 +145,15 @@ too_long bytes ds rest p l m r b =
     let e = ap length (same_digits bytes ds rest p m r b) in
     let d = length-decimal-le 10 m (lit< tt) (omega arith) (omega arith) in
     omega arith
+
+pub front_long : (bytes front ds : List ℕ) (k : ℕ) → front ≡ take 11 bytes → k ≡ prefix_len is_ascii_digit front → ds ≡ take k bytes → 10 < length ds → BeginsNone bytes
+front_long bytes front ds k e f g many =
+    let within = front_within bytes front 11 k e f in
+    let l = ap (λ (xs : List ℕ). length xs) g ∙ length-take-le k bytes within in
+    let s = f ∙ ap (λ (xs : List ℕ). prefix_len is_ascii_digit xs) e in
+    let up = counted_up 11 bytes (omega (arith, s, l, many)) in
+    let all = length-prefix_len is_ascii_digit bytes in
+    too_long bytes _ _ (parted bytes _ _ (prefix_len is_ascii_digit bytes) refl refl refl) (omega (arith, up, all))
 
 -- a number
 pub there : (bytes ds rest : List ℕ) (n : ℕ) → Parted bytes ds rest → 0 < length ds → length ds ≤ 10 → (get_or ds 0 0 ≡ 48 → length ds ≡ 1) → n ≡ digits_value 10 ds → Begins bytes n rest

@@ -1,5 +1,5 @@
 // Reading a number.
-ghost use Rattle.std.specs.Prelude.{◌≡◌, ◌≤◌, length, MatchOption};
+ghost use Rattle.std.specs.Prelude.{◌≡◌, ◌≤◌, length, take, MatchOption};
 ghost use Rattle.std.specs.List.{prefix_len};
 ghost use Rattle.std.specs.Char.{is_ascii_digit};
 ghost use Rattle.std.specs.Str.Parse.{AllDigits, digits_value};
@@ -13,6 +13,13 @@ fn count_digits(text: &[u8]) -> usize
     ensures { result ≡ prefix_len is_ascii_digit text.now }
 {
     text.iter().take_while(|byte| byte.is_ascii_digit()).count()
+}
+
+// A text as far as it must be read to see that a number is too long.
+fn front(text: &[u8]) -> &[u8]
+    ensures { result.now ≡ take 11 text.now }
+{
+    text.get(..DIGITS + 1).unwrap_or(text)
 }
 
 // The value of a few digits.
@@ -32,7 +39,7 @@ fn value(digits: &[u8]) -> u64
 pub fn read_number(text: &[u8]) -> Option<(u64, &[u8])>
     ensures { MatchOption result (BeginsNone text.now) (λ r. Begins text.now r.0 r.1.now) }
 {
-    let (digits, rest) = text.split_at(count_digits(text));
+    let (digits, rest) = text.split_at(count_digits(front(text)));
     let first = *digits.first()?;
     if digits.len() > DIGITS {
         return None;
