@@ -53,7 +53,7 @@ sofar_start bytes steps count tail o e = record {
 }
 
 -- what the reading of the next segment gives
-next_is : {bytes rest : List ℕ} {steps count k : ℕ} {tail : Tail} {ss : List Segment} {g : Got Segment} → Sofar bytes rest steps count k tail ss → k < count
+pub next_is : {bytes rest : List ℕ} {steps count k : ℕ} {tail : Tail} {ss : List Segment} {g : Got Segment} → Sofar bytes rest steps count k tail ss → k < count
     → g ≡ read_segment tail.steps tail.step tail.ticks rest
     → read_segments count steps steps 0 bytes
     ≡ prefixed ss (after g (λ s next. ahead s (read_segments (count - (k + 1)) steps s.step (tail.ticks + s.ticks) next)))

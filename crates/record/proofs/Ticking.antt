@@ -1,10 +1,11 @@
 -- The step at a tick, when one more segment is put at the end of a plan.
-use Rattle.std.proofs.Common.{◌≡◌, ℕ, ◌+◌, ◌-◌, ◌<◌, ◌≤◌, ◌⊎◌, List, [], ◌∷◌, ◌++◌, Some, None, Option, sym, refl, ◌∙◌, inl, inr, arith}
+use Rattle.std.proofs.Common.{◌≡◌, ℕ, ◌+◌, ◌-◌, ◌<◌, ◌≤◌, ltb, List, [], ◌∷◌, ◌++◌, sym, refl, ◌∙◌, inl, inr, arith}
 use Rattle.model.specs.Sums.{sum_of}
 use Rattle.model.specs.Plan.{ticks_of}
 use Rattle.model.specs.declared.segment.Segment.{Segment}
 use Rattle.std.proofs.lemmas.Bool.Decides.{nat_tests}
-use Rattle.std.proofs.lemmas.Bool.{cases_lt}
+use Rattle.std.proofs.lemmas.Bool.{cases_lt, lt-ltb, le-ltb}
+use Rattle.std.specs.Bool.{then_some}
 use Rattle.record.specs.Checks.{Stands}
 use Rattle.record.specs.Reading.{step_at}
 
@@ -57,15 +58,22 @@ step_past (x ∷ ss) tick l =
     let m = ticks_more x ss in
     step_later x ss tick (omega arith) ∙ step_past ss (tick - x.ticks) (omega arith)
 
--- the step found at a tick, one segment on: it is kept where the tick is not this segment's
-pub stands_kept : (steps tick : ℕ) (ss : List Segment) (s : Segment) (o : Option ℕ) → Stands steps tick ss o → (tick < ticks_of ss) ⊎ (ticks_of ss + s.ticks ≤ tick)
-    → Stands steps tick (ss ++ (s ∷ [])) o
-stands_kept steps tick ss s None h (inl l) = absurd (omega arith)
-stands_kept steps tick ss s None h (inr l) = omega (arith, ticks_push ss s)
-stands_kept steps tick ss s (Some x) h (inl l) = (omega (arith, ticks_push ss s), h.1 ∙ sym (step_kept ss s tick l), h.2)
-stands_kept steps tick ss s (Some x) h (inr l) = absurd (omega (arith, h.0))
+-- the step of the last segment that begins no later than a tick: the one at the tick, if the segments reach it
+abbrev pub Holds : ℕ → ℕ → List Segment → ℕ → Type 0
+Holds steps tick ss x = tick < ticks_of ss → (x ≡ step_at ss tick) × (x < steps)
 
--- and otherwise it is this segment's
-pub stands_here : (steps tick : ℕ) (ss : List Segment) (s : Segment) → s.step < steps → ticks_of ss ≤ tick → tick < ticks_of ss + s.ticks
-    → Stands steps tick (ss ++ (s ∷ [])) (Some s.step)
-stands_here steps tick ss s b l h = (omega (arith, ticks_push ss s), sym (step_last ss s tick l h), b)
+pub holds_none : (steps tick x : ℕ) → Holds steps tick [] x
+holds_none steps tick x l = absurd (omega (arith, ticks_none, l))
+
+pub holds_here : (steps tick : ℕ) (ss : List Segment) (s : Segment) → s.step < steps → ticks_of ss ≤ tick → Holds steps tick (ss ++ (s ∷ [])) s.step
+holds_here steps tick ss s b l h = (sym (step_last ss s tick l (omega (arith, ticks_push ss s, h))), b)
+
+pub holds_kept : (steps tick : ℕ) (ss : List Segment) (s : Segment) (x : ℕ) → Holds steps tick ss x → tick < ticks_of ss → Holds steps tick (ss ++ (s ∷ [])) x
+holds_kept steps tick ss s x h l m = let k = h l in (k.0 ∙ sym (step_kept ss s tick l), k.1)
+
+pub stands_end : (steps tick n x : ℕ) (ss : List Segment) → n ≡ ticks_of ss → Holds steps tick ss x → Stands steps tick ss (then_some (ltb tick n) x)
+stands_end steps tick n x ss e h =
+    elim (cases_lt tick n) [
+      | inl l ↦ rw (lt-ltb tick n l) (let k = h (omega (arith, e, l)) in (omega (arith, e, l), k.0, k.1))
+      | inr l ↦ rw (le-ltb tick n l) (omega (arith, e, l))
+    ]

@@ -39,12 +39,12 @@ pub(crate) fn check<'a>(
     }
     let segments = reader.rest;
     let mut tail = Tail::start(steps);
-    let mut step = None;
+    let mut step = 0;
     for _ in 0..count {
         let start = tail.ticks;
         let segment = reader.read_segment(&mut tail)?;
-        if (start..tail.ticks).contains(&tick) {
-            step = Some(segment.step);
+        if start <= tick {
+            step = segment.step;
         }
     }
     if !reader.rest.is_empty() {
@@ -53,7 +53,7 @@ pub(crate) fn check<'a>(
     Ok(Passed {
         count: count as usize,
         segments,
-        step,
+        step: (tick < tail.ticks).then_some(step),
     })
 }
 

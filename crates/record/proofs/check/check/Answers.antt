@@ -1,14 +1,13 @@
-use Rattle.std.proofs.Common.{◌≡◌, ◌<◌, ◌≤◌, ◌⊎◌, [], ◌∷◌, ◌++◌, List, ℕ, length, inl, inr, sym, ap, ◌∙◌, subst, Option, arith}
-use Rattle.std.proofs.lemmas.Bool.Decides.{nat_tests}
+use Rattle.std.proofs.Common.{◌≡◌, [], ◌∷◌, ◌++◌, List, ℕ, length, sym, ap, ◌∙◌, subst, Option, arith}
 use Rattle.std.proofs.lemmas.Bool.{eqb-true, eqb-false}
 use Rattle.record.specs.Checks.{Stands}
 use Rattle.record.specs.Numbers.{number_bytes}
 use Rattle.record.specs.Writing.{segments_bytes}
 use Rattle.record.proofs.Bodies.{no_count, too_many, no_room, to_segments, checks_err}
 use Rattle.record.proofs.Sofar.{sofar_start, sofar_on, sofar_refused, sofar_all, sofar_surplus}
-use Rattle.record.proofs.Ticking.{stands_kept, stands_here, ticks_none}
+use Rattle.record.proofs.Ticking.{Holds, holds_none, holds_here, holds_kept, stands_end}
 use Rattle.record.proofs.check.check.Goals as goal
-use Rattle.record.proofs.check.check.Goals.{then-contains, else-contains}
+use Rattle.record.proofs.check.check.Goals.{then-start-tick, else-start-tick}
 
 pub returns-in_err-count : goal.returns-in_err-count
 returns-in_err-count c = checks_err _ _ _ _ _ c.from_residual.result c.from_residual.ensures.1 (no_count _ _ _ _ c.in_err-count.ensures.reads)
@@ -20,7 +19,7 @@ pub returns-then-count-room : goal.returns-then-count-room
 returns-then-count-room c = no_room _ _ _ _ _ c.in_ok-count.ensures.reads c.if-count-gt-MOST_SEGMENTS.false c.if-count-room.true
 
 pub loop-init : goal.loop-init
-loop-init c = ([], sofar_start _ _ _ _ c.start-tail.ensures.steps c.start-tail.ensures.first, omega (arith, ticks_none))
+loop-init c = ([], sofar_start _ _ _ _ c.start-tail.ensures.steps c.start-tail.ensures.first, holds_none _ _ _)
 
 pub returns-in_err-segment : goal.returns-in_err-segment
 returns-in_err-segment c =
@@ -34,19 +33,16 @@ loop-preserved c =
     let ss = l.invariant.0 in
     let s = c.in_ok-segment in
     let f = l.invariant.1 in
-    let is = λ (o : Option ℕ). Stands c.args.steps c.args.tick (ss ++ (s.segment ∷ [])) o in (
+    let is = λ (x : ℕ). Holds c.args.steps c.args.tick (ss ++ (s.segment ∷ [])) x in (
       ss ++ (s.segment ∷ []),
       sofar_on f c.loop-test.true s.ensures.reads s.ensures.exact (record { steps = s.ensures.steps; after = s.ensures.after }),
-      elim c.if-contains.branch [
-        | then-contains w ↦
-            let h : (l.tail.ticks ≤ c.args.tick) × (c.args.tick < c.read_segment.new.tail.ticks) = grind (arith, nat_tests) in
+      elim c.if-start-tick.branch [
+        | then-start-tick w ↦
             subst is (sym w.step-is)
-            (stands_here c.args.steps c.args.tick ss s.segment (omega (arith, s.ensures.low, f.own)) (omega (arith, h.0, f.sum)) (omega (arith, h.1, f.sum, s.ensures.after.1)))
-        | else-contains w ↦
-            let h : (c.args.tick < l.tail.ticks) ⊎ (c.read_segment.new.tail.ticks ≤ c.args.tick) = grind (arith, nat_tests) in
+            (holds_here c.args.steps c.args.tick ss s.segment (omega (arith, s.ensures.low, f.own)) (omega (arith, w.if-start-tick.true, f.sum)))
+        | else-start-tick w ↦
             subst is (sym w.step-is)
-            (stands_kept c.args.steps c.args.tick ss s.segment l.step l.invariant.2
-            (elim h [ inl i ↦ inl (omega (arith, i, f.sum)) | inr i ↦ inr (omega (arith, i, f.sum, s.ensures.after.1)) ]))
+            (holds_kept c.args.steps c.args.tick ss s.segment l.step l.invariant.2 (omega (arith, w.if-start-tick.false, f.sum)))
       ],
     )
 
@@ -71,6 +67,6 @@ returns c =
             ∙ ap (λ (m : ℕ). number_bytes m ++ segments_bytes ss) many;
         count = many;
         few = c.if-count-room.false;
-        step = c.loop.invariant.2;
+        step = subst (λ (o : Option ℕ). Stands c.args.steps c.args.tick ss o) (sym c.then_some.ensures) (stands_end c.args.steps c.args.tick _ _ ss c.loop.invariant.1.sum c.loop.invariant.2);
       },
     )
