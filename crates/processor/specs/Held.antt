@@ -1,9 +1,9 @@
 -- What the ghost fields of a ladder and of a formula give.
-use Rattle.std.specs.Prelude.{◌≡◌, ℕ, ◌%◌, ◌≤◌, false, not, ◌&&◌, List, [], ◌∷◌, length, take, is_some, ◌==◌, nat_le, nat_lt}
+use Rattle.std.specs.Prelude.{◌≡◌, ℕ, ◌%◌, ◌<◌, ◌≤◌, false, not, ◌&&◌, List, [], ◌∷◌, length, take, is_some, ◌==◌, nat_le, nat_lt, slice_index_or}
 use Rattle.std.proofs.Common.{sym, subst, arith}
-use Rattle.std.proofs.lemmas.List.{length-take-le}
+use Rattle.std.proofs.lemmas.List.{length-take-le, get_or-take, get_or_past}
 use Rattle.std.proofs.lemmas.Bool.{and_parts, not-false, leb-true, ltb-false, eqb-true}
-use Rattle.model.specs.Steps.{unit, Lawful}
+use Rattle.model.specs.Steps.{unit, no_step, Lawful}
 use Rattle.model.specs.declared.step.Step.{Step}
 use Rattle.refusal.specs.Refusals.{line, first_of}
 use Rattle.refusal.proofs.Lines.{first_clear}
@@ -67,3 +67,11 @@ pub formula_lawful : (n q a b c : ℕ) → is_some (formula_refusal n q a b c) �
 formula_lawful n q a b c e =
     let w = within n q a b c e in
     figures_lawful n q a b c w.few w.many w.some w.wide w.even w.constant w.linear w.cubic
+
+-- a ladder's step, and one that it lacks
+pub ladder_step : (s : List Step) (n i : ℕ) → i < n → slice_index_or (take n s) i no_step ≡ slice_index_or s i no_step
+ladder_step s n i l = get_or-take n s i no_step l
+
+pub ladder_past :
+    (s : List Step) (n i : ℕ) → length s ≡ 16 → is_some (first_of (step_lines (take n s) n)) ≡ false → n ≤ i → slice_index_or (take n s) i no_step ≡ no_step
+ladder_past s n i e h l = let k = ladder_length s n e h in get_or_past (take n s) i no_step (omega arith)

@@ -68,9 +68,12 @@ impl Ladder {
         ensures exact { (is_ok result ≡ true → Lawful (listed speeds powers count)) × (count ≤ 16 → Lawful (listed speeds powers count) → is_ok result ≡ true) }
         ensures after { MatchResult result (λ _. ladder_steps self.new ≡ listed speeds powers count) (λ _. self.new ≡ self.old) }
     {
+        if count < 2 || count > 16 {
+            return Err(Refusal::Count);
+        }
         let steps = pair(speeds, powers);
-        let named = steps.get(..count).ok_or(Refusal::Count)?;
-        *self = Ladder::of(named)?;
+        check(&steps[..count])?;
+        *self = Ladder { steps, count };
         Ok(())
     }
 }
