@@ -1,7 +1,7 @@
 // The calls that a list can hold.
 use model::job::Job;
-use model::step::Step;
 use processor::formula::Formula;
+use processor::ladder::Ladder;
 use refusal::refusal::Refusal;
 
 // The figures of a formula.
@@ -28,12 +28,12 @@ impl Figures {
 }
 
 // A call, with what it is given. A slip stands as the number of the book that gave it out.
-#[derive(Drop)]
+#[derive(Clone, Copy)]
 pub enum Call {
     // a new book of this number
     Book(u16),
-    // a ladder of these steps as the processor of later calls
-    Ladder(Vec<Step>),
+    // the ladder of some steps as the processor of later calls, or why there is none
+    Ladder(Result<Ladder, Refusal>),
     // a formula of these figures as the processor of later calls
     Formula(Figures),
     Enter(Job),

@@ -86,9 +86,7 @@ impl Desk {
                 self.open(number)?;
                 Ok(Ok(Said::Done))
             }
-            Call::Ladder(steps) => {
-                Ok(self.make(Ladder::of(steps.as_slice()).map(Machine::from)))
-            }
+            Call::Ladder(made) => Ok(self.make(made.map(Machine::from))),
             Call::Formula(figures) => Ok(self.make(figures.formula().map(Machine::from))),
             Call::Enter(job) => Ok(self.keeper.enter(job).map(Said::from)),
             Call::Hold(job) => Ok(self.machine.hold(&mut self.keeper, job).map(Said::from)),

@@ -3,6 +3,7 @@ use crate::call::{Call, Figures};
 use anyhow::anyhow;
 use model::job::Job;
 use model::step::Step;
+use processor::ladder::Ladder;
 use std::alloc::Global;
 
 // Adds the figures of one word to those before it; a word may hold two, with a colon between them.
@@ -22,17 +23,21 @@ fn read_figures(heap: Global, text: &str) -> anyhow::Result<Vec<u64>> {
     Ok(figures)
 }
 
-// A ladder with a step for each two figures, its speed and its power.
-fn read_ladder(heap: Global, figures: &[u64]) -> anyhow::Result<Call> {
+// A ladder with a step for each two figures, its speed and its power. By one step more than a ladder may have it is seen to
+// have too many, so no more are laid out.
+fn read_ladder(figures: &[u64]) -> anyhow::Result<Call> {
     let (pairs, rest) = figures.as_chunks::<2>();
     if !rest.is_empty() {
         return Err(anyhow!("a step of a ladder has two figures"));
     }
-    let steps = pairs.iter().map(|[speed, power]| Step {
-        speed: *speed,
-        power: *power,
-    });
-    Ok(Call::Ladder(steps.collect(heap)?))
+    let mut steps = [Step::default(); 17];
+    for (step, [speed, power]) in steps.iter_mut().zip(pairs) {
+        *step = Step {
+            speed: *speed,
+            power: *power,
+        };
+    }
+    Ok(Call::Ladder(Ladder::of(&steps[..pairs.len().min(17)])))
 }
 
 // A job of the first four figures. The fifth is a mark that says nothing to this book.
@@ -49,10 +54,10 @@ fn read_job(figures: &[u64]) -> anyhow::Result<Job> {
 }
 
 // The call of this name with these figures.
-fn read_named(heap: Global, name: &str, figures: &[u64]) -> anyhow::Result<Call> {
+fn read_named(name: &str, figures: &[u64]) -> anyhow::Result<Call> {
     match (name, figures) {
         ("book", [number, 0]) => Ok(Call::Book(u16::try_from(*number)?)),
-        ("ladder", _) => read_ladder(heap, figures),
+        ("ladder", _) => read_ladder(figures),
         ("formula", [count, stride, constant, linear, cubic]) => Ok(Call::Formula(Figures {
             count: usize::try_from(*count)?,
             stride: *stride,
@@ -81,5 +86,5 @@ pub fn first_word(text: &str) -> &str {
 // The call that is written in a text.
 pub fn read(heap: Global, text: &str) -> anyhow::Result<Call> {
     let figures = read_figures(heap, text)?;
-    read_named(heap, first_word(text), figures.as_slice())
+    read_named(first_word(text), figures.as_slice())
 }
