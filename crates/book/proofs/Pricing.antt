@@ -88,6 +88,10 @@ module _ (s : State) (j : Job) (steps : List Level) (e : None ≡ first_of (push
       accepted_step s (holding s j) (holds j steps) (priced p) k (to_price h ∙ first_pass (line (ltb (cost steps (with_job s.jobs j)) (cost steps s.jobs)) 17 0) [] (le-ltb _ _ l))
       refl (ap priced f)
 
+-- the held job may be put last
+pub hold_waits : (s : State) (j : Job) (steps : List Level) → None ≡ first_of (push_lines s.jobs j ++ (want_line steps (with_job s.jobs j) ∷ [])) → is_some (first_of (push_lines s.jobs j)) ≡ false
+hold_waits s j steps e = ap (λ (o : Option Told). is_some o) (free s j steps e).0
+
 -- one job put last and taken off again
 pub popped : (jobs js ks : List Job) (j : Job) → js ≡ jobs ++ (j ∷ []) → ks ≡ take (length js - 1) js → ks ≡ jobs
 popped jobs js ks j e f =

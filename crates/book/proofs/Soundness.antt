@@ -131,3 +131,9 @@ sound number calls l =
     let a = all_sums (new number) calls (kept_new number) in
     let b = charged_new number in
     record { good = all_good (new number) calls (kept_new number) l; sums = omega arith }
+
+-- every book that a list of calls leads to keeps what books keep
+pub kept_run : (s : State) (calls : List Call) → Kept s → Kept (run_from s calls)
+unfolding run_from
+kept_run s [] k = k
+kept_run s (c ∷ cs) k = kept_run (after s c) cs (kept_after s c k)

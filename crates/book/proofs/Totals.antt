@@ -47,6 +47,9 @@ raised_is steps jobs charges = refl
 pub raised_at : (steps : List Step) (jobs : List Job) (charges : List ℕ) (a : ℕ) → a < 65 → get_or (raised steps jobs charges) a 0 ≡ get_or charges a 0 + charge steps jobs (plan steps jobs) a
 raised_at steps jobs charges a l = ap (λ (xs : List ℕ). get_or xs a 0) (raised_is steps jobs charges) ∙ raised_place steps jobs charges 65 a l
 
+pub raised_places : (steps : List Step) (jobs : List Job) (charges : List ℕ) → length (raised steps jobs charges) ≡ 65
+raised_places steps jobs charges = ap (λ (xs : List ℕ). length xs) (raised_is steps jobs charges) ∙ raised_length steps jobs charges 65
+
 -- a close adds its energy
 pub charged_close : (steps : List Step) (jobs : List Job) (charges : List ℕ) → standing jobs ≡ true
     → sum_to 65 (λ a. get_or (raised steps jobs charges) a 0) ≡ sum_to 65 (λ a. get_or charges a 0) + cost steps jobs

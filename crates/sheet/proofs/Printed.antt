@@ -67,7 +67,7 @@ printed_some size sheet = by (first_of (sheet_table size sheet))
         let a = length-append (segments_text (plan (said sheet).steps (said sheet).jobs)) (energy_text e) in
         omega arith
 
-prints : (size n : ℕ) (sheet entry exit : List ℕ) → fitting (printed size sheet) entry exit (Ok n) → Prints (printed size sheet) entry exit n
+pub prints : (size n : ℕ) (sheet entry exit : List ℕ) → fitting (printed size sheet) entry exit (Ok n) → Prints (printed size sheet) entry exit n
 prints size n sheet entry exit f =
     let s = printed_some size sheet in
     let m = f.1 in
