@@ -21,7 +21,7 @@ use Rattle.book.specs.declared.book.Book.{Book}
 use Rattle.grammar.specs.declared.row.Row.{Row}
 use Rattle.grammar.specs.declared.row.Row.TheVariants.{Rung, Task, Draw}
 use Rattle.sheet.specs.Answers.{fault_told, fault_outcome}
-use Rattle.sheet.specs.Pages.{Good, Reached, sheet_of, is_drawn}
+use Rattle.sheet.specs.Pages.{Good, Reached, Tasking, sheet_of, is_drawn}
 use Rattle.sheet.specs.Sheets.{Sheet, desk, room, ladder_lines, with_row, beneath, placed, row_table}
 use Rattle.sheet.specs.declared.fault.Fault.{Fault}
 use Rattle.sheet.specs.declared.page.Page.TheInside.{Inside}
@@ -106,6 +106,27 @@ task_taken p s b l j w d n m a t =
           ap (λ (xs : List Level). record { steps = xs; jobs = (state b).jobs; drawn = false }) ss
           ∙ ap (λ (xs : List Job). record { steps = s.steps; jobs = xs; drawn = false }) js
           ∙ ap (λ (t : Bool). record { steps = s.steps; jobs = s.jobs ++ (j ∷ []); drawn = t }) (sym d);
+    }
+
+-- once the ladder is made, it is the one of the steps, and none of the rules refuses it
+pub tasking : {p : Inside} {s : Sheet} (l : Ladder) → Seen p s → p.stage ≡ Tasks l → Tasking s l
+tasking {p} l w e = subst (λ (x : Sheet). Tasking x l) w.is (subst (λ (t : Stage). Reached t (sheet_of p) p.segments) e w.good.stage)
+
+-- a job is entered behind others
+pub record Followed (p : Inside) (s : Sheet) (b : Book) (j : Job) : Type 0 where
+  pub answers : None ≡ first_of (beneath s (Task j))
+  pub good : Good (turned p b p.stage p.segments)
+  pub after : sheet_of (turned p b p.stage p.segments) ≡ with_row s (Task j)
+
+pub task_followed : (p : Inside) (s : Sheet) (b : Book) (l : Ladder) (j : Job) → Seen p s → s.drawn ≡ false → p.stage ≡ Tasks l
+    → done ≡ answer (state p.book) (enters j) → state b ≡ after (state p.book) (enters j) → Followed p s b j
+task_followed p s b l j w d e a t =
+    let k = tasking l w e in
+    let f = task_taken p s b l j w d (sym k.lawful) k.ladder a t in
+    record {
+      answers = f.answers;
+      good = subst (λ (x : Stage). Good (turned p b x p.segments)) (sym e) f.good;
+      after = subst (λ (x : Stage). sheet_of (turned p b x p.segments) ≡ with_row s (Task j)) (sym e) f.after;
     }
 
 -- the table of a plan asks of the buffer only how long it is

@@ -48,6 +48,10 @@ impl Page {
         ensures answer { outcome result ≡ first_of (beneath self.old (Task job)) }
         ensures after { OnOk result (self.new ≡ with_row self.old (Task job)) }
     {
+        if let Stage::Tasks(_) = self.stage {
+            self.book.enter(job)?;
+            return Ok(());
+        }
         let ladder = self.ladder()?;
         self.book.enter(job)?;
         self.stage = Stage::Tasks(ladder);
